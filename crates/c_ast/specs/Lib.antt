@@ -1,0 +1,7 @@
+pub mod Tree
+pub mod View
+pub mod Value
+pub mod Step
+pub mod Function
+pub mod Returns
+pub mod Narrow

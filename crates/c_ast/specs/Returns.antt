@@ -1,0 +1,22 @@
+-- What a function returns.
+use Rattle.std.specs.Prelude.{◌≡◌, ℕ, Bool, true, List, Option, Some, None, ℤ}
+use Rattle.c_ast.specs.Tree.{Expression, Program}
+use Rattle.c_ast.specs.Step.{Work, first_variables, start, spread, seen}
+
+abbrev pub always : Option Expression → List ℤ → Bool
+always expression env = true
+
+abbrev pub no_mark : ℕ → ℕ → List ℤ → Option ℤ → Option ℤ
+no_mark marks mark values result = result
+
+abbrev pub as_it_is : ℤ → ℤ
+as_it_is value = value
+
+-- the result, where at most n steps end the run
+abbrev pub result_within : ℕ → Work → List ℤ → Option ℤ
+result_within n = seen always None no_mark as_it_is n 0
+
+-- Where the parameters have these values and all other variables are 0, some number of steps ends with this value.
+pub record Returns (f : Program) (inputs : List ℤ) (value : ℤ) : Type 0 where
+  pub steps : ℕ
+  pub ends : result_within steps (start f) (spread (first_variables f.params) f.vars inputs) ≡ Some value

@@ -1,0 +1,66 @@
+-- The value of an expression (ISO C11, 6.5), over integers of any size. Every expression has one, and evaluating it
+-- changes nothing, so the operands that C would skip have a value too.
+use Rattle.std.specs.Prelude.{ℕ, zero, suc, ◌<◌, ◌≤ℤ◌, Bool, true, false, if◌then◌else◌, not, ◌&&◌, ◌||◌, List, ℤ, pos, negsuc, ◌+ℤ◌, ◌-ℤ◌, ◌*ℤ◌, neg_ℤ, int_lt, int_le, slice_index_or}
+use Rattle.c_ast.specs.declared.expr.UnOp.{UnOp}
+use Rattle.c_ast.specs.declared.expr.UnOp.TheVariants.{Plus, Minus, Not}
+use Rattle.c_ast.specs.declared.expr.BinOp.{BinOp}
+use Rattle.c_ast.specs.declared.expr.BinOp.TheVariants.{Mul, Add, Sub, Less, LessEq, Greater, GreaterEq, Equal, NotEqual, And, Or}
+use Rattle.c_ast.specs.Tree.{Expression, Num, Var, Un, Bin, Cond}
+
+-- Whether the value compares unequal to 0.
+abbrev pub is_nonzero : ℤ → Bool
+is_nonzero (pos zero) = false
+is_nonzero (pos (suc n)) = true
+is_nonzero (negsuc n) = true
+
+-- A test has the value 1 where it holds, and 0 elsewhere.
+abbrev pub test_value : Bool → ℤ
+test_value true = pos 1
+test_value false = pos 0
+
+abbrev pub are_equal : ℤ → ℤ → Bool
+are_equal a b = int_le a b && int_le b a
+
+-- 6.5.3.3
+abbrev pub unary_value : UnOp → ℤ → ℤ
+unary_value Plus a = a
+unary_value Minus a = neg_ℤ a
+unary_value Not a = test_value (not (is_nonzero a))
+
+-- 6.5.5, 6.5.6, 6.5.8, 6.5.9, 6.5.13 and 6.5.14
+abbrev pub binary_value : BinOp → ℤ → ℤ → ℤ
+binary_value Mul a b = a *ℤ b
+binary_value Add a b = a +ℤ b
+binary_value Sub a b = a -ℤ b
+binary_value Less a b = test_value (int_lt a b)
+binary_value LessEq a b = test_value (int_le a b)
+binary_value Greater a b = test_value (int_lt b a)
+binary_value GreaterEq a b = test_value (int_le b a)
+binary_value Equal a b = test_value (are_equal a b)
+binary_value NotEqual a b = test_value (not (are_equal a b))
+binary_value And a b = test_value (is_nonzero a && is_nonzero b)
+binary_value Or a b = test_value (is_nonzero a || is_nonzero b)
+
+-- The environment lists the values of all variables, by number; 6.5.15 for `?:`.
+abbrev pub eval : Expression → List ℤ → ℤ
+eval (Num z) environment = z
+eval (Var x) environment = slice_index_or environment x (pos 0)
+eval (Un op e) environment = unary_value op (eval e environment)
+eval (Bin op e f) environment = binary_value op (eval e environment) (eval f environment)
+eval (Cond c e f) environment = if is_nonzero (eval c environment) then eval e environment else eval f environment
+
+-- Each variable of the expression is below n.
+abbrev pub VariablesBelow : ℕ → Expression → Type 0
+VariablesBelow n (Num z) = Unit {0}
+VariablesBelow n (Var x) = x < n
+VariablesBelow n (Un op e) = VariablesBelow n e
+VariablesBelow n (Bin op e f) = VariablesBelow n e × VariablesBelow n f
+VariablesBelow n (Cond c e f) = VariablesBelow n c × VariablesBelow n e × VariablesBelow n f
+
+-- Each constant of the expression is at least 0, as the source spells it.
+abbrev pub HasNaturalConstants : Expression → Type 0
+HasNaturalConstants (Num z) = pos 0 ≤ℤ z
+HasNaturalConstants (Var x) = Unit {0}
+HasNaturalConstants (Un op e) = HasNaturalConstants e
+HasNaturalConstants (Bin op e f) = HasNaturalConstants e × HasNaturalConstants f
+HasNaturalConstants (Cond c e f) = HasNaturalConstants c × HasNaturalConstants e × HasNaturalConstants f
