@@ -1,0 +1,29 @@
+-- Dot products.
+use Rattle.std.proofs.Common.{◌≡◌, suc, List, [], ◌∷◌, arith, refl, ◌∙◌, ap, length}
+use Rattle.std.specs.Prelude.{ℤ, ◌+ℤ◌, ◌*ℤ◌}
+use Rattle.std.proofs.lemmas.Int.{ints}
+use Rattle.lin_terms.specs.Vectors.{dot, plus, scaled}
+use Rattle.lin_terms.proofs.Ring.{as_dif, same_dif, difs}
+
+add_mul_step : (x y z s t : ℤ) → ((x +ℤ y) *ℤ z) +ℤ (s +ℤ t) ≡ ((x *ℤ z) +ℤ s) +ℤ ((y *ℤ z) +ℤ t)
+add_mul_step x y z s t =
+    rw (as_dif x, as_dif y, as_dif z, as_dif s, as_dif t) (simp difs (same_dif _ _ _ _ (omega arith)))
+
+pub dot-plus : (xs ys zs : List ℤ) → dot (plus xs ys) zs ≡ dot xs zs +ℤ dot ys zs
+dot-plus [] ys zs = omega (arith, ints)
+dot-plus (x ∷ xs) [] zs = omega (arith, ints)
+dot-plus (x ∷ xs) (y ∷ ys) [] = refl
+dot-plus (x ∷ xs) (y ∷ ys) (z ∷ zs) = ap (λ t. ((x +ℤ y) *ℤ z) +ℤ t) (dot-plus xs ys zs) ∙ add_mul_step x y z (dot xs zs) (dot ys zs)
+
+scale_step : (k x z s : ℤ) → ((k *ℤ x) *ℤ z) +ℤ (k *ℤ s) ≡ k *ℤ ((x *ℤ z) +ℤ s)
+scale_step k x z s =
+    rw (as_dif k, as_dif x, as_dif z, as_dif s) (simp difs (same_dif _ _ _ _ (omega arith)))
+
+pub dot-scaled : (k : ℤ) (xs zs : List ℤ) → dot (scaled k xs) zs ≡ k *ℤ dot xs zs
+dot-scaled k [] zs = omega (arith, ints)
+dot-scaled k (x ∷ xs) [] = omega (arith, ints)
+dot-scaled k (x ∷ xs) (z ∷ zs) = ap (λ t. ((k *ℤ x) *ℤ z) +ℤ t) (dot-scaled k xs zs) ∙ scale_step k x z (dot xs zs)
+
+pub length-scaled : (k : ℤ) (xs : List ℤ) → length (scaled k xs) ≡ length xs
+length-scaled k [] = refl
+length-scaled k (x ∷ xs) = ap suc (length-scaled k xs)

@@ -1,0 +1,109 @@
+-- The values of forms.
+use Rattle.std.proofs.Common.{◌≡◌, ◌↔◌, ℕ, zero, suc, ◌<◌, Bool, true, false, cond, ◌&&◌, eqb, Some, None, IsTrue, sym, List, [], ◌∷◌, get_or, set, replicate, refl, ap, ◌∙◌, arith}
+use Rattle.std.specs.Prelude.{ℤ, pos, negsuc, ◌+ℤ◌, ◌*ℤ◌, unsigned_abs, Decides}
+use Rattle.lin_terms.specs.Narrow.{is_narrow, are_narrow, narrow}
+use Rattle.std.specs.List.{list_all}
+use Rattle.std.proofs.lemmas.Int.{ints}
+use Rattle.std.proofs.lemmas.Bool.Decides.{nat_tests}
+use Rattle.lin_terms.specs.declared.form.Form.{Form}
+use Rattle.lin_terms.specs.Vectors.{dot, plus, scaled}
+use Rattle.lin_terms.specs.Form.{value_at, sum_of, multiple_of, constant_form, variable_form, is_constant}
+use Rattle.lin_terms.proofs.Ring.{as_dif, same_dif, difs}
+use Rattle.lin_terms.proofs.Dots.{dot-plus, dot-scaled}
+
+swapped : (a b c d : ℤ) → (a +ℤ b) +ℤ (c +ℤ d) ≡ (a +ℤ c) +ℤ (b +ℤ d)
+swapped a b c d = omega (arith, ints)
+
+pub value_at-sum_of : (x y : Form) (values : List ℤ) → value_at (sum_of x y) values ≡ value_at x values +ℤ value_at y values
+value_at-sum_of x y values = rw (dot-plus x.coefs y.coefs values) (swapped (dot x.coefs values) (dot y.coefs values) x.constant y.constant)
+
+factored : (k s c : ℤ) → (k *ℤ s) +ℤ (k *ℤ c) ≡ k *ℤ (s +ℤ c)
+factored k s c = rw (as_dif k, as_dif s, as_dif c) (simp difs (same_dif _ _ _ _ (omega arith)))
+
+pub value_at-multiple_of : (k : ℤ) (x : Form) (values : List ℤ) → value_at (multiple_of k x) values ≡ k *ℤ value_at x values
+value_at-multiple_of k x values = rw (dot-scaled k x.coefs values) (factored k (dot x.coefs values) x.constant)
+
+zero_entry : (z : ℤ) → eqb (unsigned_abs z) 0 ≡ true → z ≡ pos 0
+zero_entry (pos n) e = ap pos (grind (arith, nat_tests))
+zero_entry (negsuc n) e = absurd (grind (arith, nat_tests))
+
+and_both : (a b : Bool) → (a && b) ≡ true → (a ≡ true) × (b ≡ true)
+and_both true b e = (refl, e)
+and_both false b e = absurd cc
+
+nothing_added : (v s : ℤ) → s ≡ pos 0 → (pos 0 *ℤ v) +ℤ s ≡ pos 0
+nothing_added v s e = omega (arith, ints)
+
+dot-zeros : (xs values : List ℤ) → list_all (λ entry. eqb (unsigned_abs entry) 0) xs ≡ true → dot xs values ≡ pos 0
+dot-zeros [] values e = refl
+dot-zeros (x ∷ xs) [] e = refl
+dot-zeros (x ∷ xs) (v ∷ values) e =
+    let both = and_both (eqb (unsigned_abs x) 0) (list_all (λ entry. eqb (unsigned_abs entry) 0) xs) e in
+    rw (zero_entry x both.0) (nothing_added v (dot xs values) (dot-zeros xs values both.1))
+
+pub value_at-constant : (form : Form) (values : List ℤ) → is_constant form ≡ true → value_at form values ≡ form.constant
+value_at-constant form values e = rw (dot-zeros form.coefs values e) (omega (arith, ints))
+
+dot-replicate : (n : ℕ) (values : List ℤ) → dot (replicate n (pos 0)) values ≡ pos 0
+dot-replicate zero values = refl
+dot-replicate (suc n) [] = refl
+dot-replicate (suc n) (v ∷ values) = nothing_added v (dot (replicate n (pos 0)) values) (dot-replicate n values)
+
+pub value_at-constant_form : (n : ℕ) (z : ℤ) (values : List ℤ) → value_at (constant_form n z) values ≡ z
+value_at-constant_form n z values = rw (dot-replicate n values) (omega (arith, ints))
+
+one_times : (v s : ℤ) → s ≡ pos 0 → (pos 1 *ℤ v) +ℤ s ≡ v
+one_times v s e = omega (arith, ints)
+
+dot-unit : (n x : ℕ) (values : List ℤ) → x < n → dot (set (replicate n (pos 0)) x (pos 1)) values ≡ get_or values x (pos 0)
+dot-unit zero x values below = absurd (omega arith)
+dot-unit (suc n) zero [] below = refl
+dot-unit (suc n) (suc x) [] below = refl
+dot-unit (suc n) zero (v ∷ values) below = one_times v (dot (replicate n (pos 0)) values) (dot-replicate n values)
+dot-unit (suc n) (suc x) (v ∷ values) below =
+    let e : (pos 0 *ℤ v) +ℤ dot (set (replicate n (pos 0)) x (pos 1)) values ≡ dot (set (replicate n (pos 0)) x (pos 1)) values = omega (arith, ints) in
+    e ∙ dot-unit n x values (omega arith)
+
+pub value_at-variable_form : (n x : ℕ) (values : List ℤ) → x < n → value_at (variable_form n x) values ≡ get_or values x (pos 0)
+value_at-variable_form n x values below = rw (dot-unit n x values below) (omega (arith, ints))
+
+form_of_parts : {xs ys : List ℤ} {j k : ℤ} → xs ≡ ys → j ≡ k → ◌≡◌ {A = Form} (record { coefs = xs; constant = j }) (record { coefs = ys; constant = k })
+form_of_parts p q = cc
+
+-- Forms with equal parts are equal.
+pub equal_parts : (f g : Form) → f.coefs ≡ g.coefs → f.constant ≡ g.constant → f ≡ g
+equal_parts f g p q = form_of_parts p q
+
+-- ---- forms made of parts
+
+pub value_at-made_sum : (f x y : Form) → f.coefs ≡ plus x.coefs y.coefs → f.constant ≡ x.constant +ℤ y.constant
+    → (values : List ℤ) → value_at f values ≡ value_at x values +ℤ value_at y values
+value_at-made_sum f x y p q values = ap (λ (form : Form). value_at form values) (equal_parts f (sum_of x y) p q) ∙ value_at-sum_of x y values
+
+pub value_at-made_multiple : (f x : Form) (k : ℤ) → f.coefs ≡ scaled k x.coefs → f.constant ≡ k *ℤ x.constant
+    → (values : List ℤ) → value_at f values ≡ k *ℤ value_at x values
+value_at-made_multiple f x k p q values = ap (λ (form : Form). value_at form values) (equal_parts f (multiple_of k x) p q) ∙ value_at-multiple_of k x values
+
+pub value_at-made_variable : (f : Form) (n x : ℕ) → x < n → f ≡ variable_form n x → (values : List ℤ) → value_at f values ≡ get_or values x (pos 0)
+value_at-made_variable f n x below e values = ap (λ (form : Form). value_at form values) e ∙ value_at-variable_form n x values below
+
+pub value_at-made_constant : (f : Form) (n : ℕ) (z : ℤ) → f.coefs ≡ replicate n (pos 0) → f.constant ≡ z → (values : List ℤ) → value_at f values ≡ z
+value_at-made_constant f n z p q values = ap (λ (form : Form). value_at form values) (equal_parts f (constant_form n z) p q) ∙ value_at-constant_form n z values
+
+narrow_constant : (b c : Bool) (f : Form) → b ≡ true → c ≡ true → cond (b && c) (Some f) None ≡ Some f
+narrow_constant true true f e g = refl
+narrow_constant true false f e g = absurd cc
+narrow_constant false c f e g = absurd cc
+
+all_zeros-narrow : (n : ℕ) → are_narrow (replicate n (pos 0)) ≡ true
+all_zeros-narrow zero = refl
+all_zeros-narrow (suc n) = all_zeros-narrow n
+
+pub narrow-constant_form : (f : Form) (n : ℕ) (z : ℤ) → is_narrow z ≡ true → f.coefs ≡ replicate n (pos 0) → f.constant ≡ z → narrow (constant_form n z) ≡ Some f
+narrow-constant_form f n z e p q =
+    narrow_constant (is_narrow z) (are_narrow (replicate n (pos 0))) (constant_form n z) e (all_zeros-narrow n) ∙ ap Some (sym (equal_parts f (constant_form n z) p q))
+
+-- Forms are compared by their parts.
+pub same_parts : (r : Bool) (f g : Form) (xs ys : List ℤ) → Decides r (xs ≡ ys) → xs ≡ f.coefs → ys ≡ g.coefs → f.constant ≡ g.constant → IsTrue r ↔ (f ≡ g)
+same_parts r f g xs ys tested p q constant =
+    (λ t. equal_parts f g (sym p ∙ tested.0 t ∙ q) constant, λ e. tested.1 (p ∙ ap (λ (form : Form). form.coefs) e ∙ sym q))

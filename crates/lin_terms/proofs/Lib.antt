@@ -1,0 +1,4 @@
+pub mod Ring
+pub mod Dots
+pub mod Entries
+pub mod FormLemmas

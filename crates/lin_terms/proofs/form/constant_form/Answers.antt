@@ -1,0 +1,11 @@
+use Rattle.std.proofs.Common.{rules, to_z-of_z, FitsSigned, w64, refl}
+use Rattle.lin_terms.proofs.FormLemmas.{narrow-constant_form, value_at-made_constant}
+use Rattle.lin_terms.proofs.form.constant_form.Goals as goal
+
+pub returns : goal.returns
+returns c =
+    let value-fits : FitsSigned w64 c.args.value = c.ranges.value in
+    simp to_z-of_z (record {
+      made = narrow-constant_form _ c.args.count c.args.value (search rules) c.in_ok-coefs.ensures refl;
+      value = value_at-made_constant _ c.args.count c.args.value c.in_ok-coefs.ensures refl;
+    })

@@ -1,0 +1,13 @@
+//! Linear forms over the variables of a place: `coefs · v + constant`.
+//!
+//! Forms are made exactly or not at all: a form that has an entry of 2^50 or more in size is refused. What a form's
+//! value is, and which form a sum or a multiple is, stands in `specs/Form.antt`, over integers of any size.
+#![tactic(auto)]
+
+mod fault;
+mod form;
+#[cfg(test)]
+mod tests;
+
+pub use fault::FormFault;
+pub use form::{Form, add, constant_form, scale, variable_form};

@@ -1,0 +1,85 @@
+//! Forms whose entries were worked out by hand.
+use crate::{Form, FormFault, add, constant_form, scale, variable_form};
+use sqlite_items::Items;
+use std::alloc::{AllocError, Global};
+use std::test::Fail;
+
+/// 2^50, the least wide entry.
+const WIDE: i64 = 1_125_899_906_842_624;
+
+fn form(alloc: Global, coefs: &[i64], constant: i64) -> Result<Form, AllocError> {
+    let coefs = Items::from_slice(alloc, coefs)?;
+    Ok(Form { coefs, constant })
+}
+
+/// The entries of a form, or why there is none.
+fn shown(alloc: Global, made: Result<Form, FormFault>) -> Result<String, AllocError> {
+    match made {
+        Ok(form) => {
+            let coefs = form.coefs.as_slice();
+            format!(in alloc; "{coefs:?} {}", form.constant)
+        }
+        Err(fault) => format!(in alloc; "{fault:?}"),
+    }
+}
+
+#[test]
+fn sums_and_multiples(rt: HostRuntime) -> Result<(), Fail> {
+    let alloc = rt.alloc();
+    let half = WIDE / 2;
+    let rows: [(&[i64], i64, &[i64], i64, &str); 7] = [
+        (&[1], 1, &[1], -3, "[2] -2"),
+        (&[2, -5, 0], 7, &[-2, 5, 1], -7, "[0, 0, 1] 0"),
+        (&[], half, &[], half - 1, "[] 1125899906842623"),
+        (&[], half, &[], half, "WideForm"),
+        (&[half], 0, &[half], 0, "WideForm"),
+        (
+            &[0, -half],
+            0,
+            &[0, 1 - half],
+            0,
+            "[0, -1125899906842623] 0",
+        ),
+        (&[0, -half], 0, &[0, -half], 0, "WideForm"),
+    ];
+    for (xs, x, ys, y, want) in rows {
+        let (first, second) = (form(alloc, xs, x)?, form(alloc, ys, y)?);
+        assert_eq!(rt; xs.len(), ys.len());
+        assert!(rt; first.coefs.len() == second.coefs.len());
+        let got = shown(alloc, add(alloc, &first, &second))?;
+        assert_eq!(rt; got.as_str(), want, "{xs:?} {x} and {ys:?} {y}");
+    }
+    let rows: [(&[i64], i64, i64, &str); 6] = [
+        (&[1, -2], 3, 5, "[5, -10] 15"),
+        (&[1, -2], 3, -1, "[-1, 2] -3"),
+        (&[7], 7, 0, "[0] 0"),
+        (&[half], 0, 2, "WideForm"),
+        (&[0], half, -2, "WideForm"),
+        (&[i64::MIN], 0, i64::MIN, "WideForm"),
+    ];
+    for (xs, x, k, want) in rows {
+        let got = shown(alloc, scale(alloc, &form(alloc, xs, x)?, k))?;
+        assert_eq!(rt; got.as_str(), want, "{k} times {xs:?} {x}");
+    }
+    Ok(())
+}
+
+#[test]
+fn constants_and_variables(rt: HostRuntime) -> Result<(), Fail> {
+    let alloc = rt.alloc();
+    for (count, value, want) in [
+        (0, -3, "[] -3"),
+        (2, 1 - WIDE, "[0, 0] -1125899906842623"),
+        (2, WIDE, "WideForm"),
+    ] {
+        let got = shown(alloc, constant_form(alloc, count, value))?;
+        assert_eq!(rt; got.as_str(), want);
+    }
+    let second = variable_form(alloc, 3, 1)?;
+    assert!(rt; !second.is_constant());
+    assert!(rt; second.same(&form(alloc, &[0, 1, 0], 0)?));
+    assert!(rt; !second.same(&form(alloc, &[0, 1, 0], 1)?));
+    assert!(rt; !second.same(&form(alloc, &[0, 1], 0)?));
+    assert!(rt; form(alloc, &[0, 0], 4)?.is_constant());
+    Ok(())
+}
