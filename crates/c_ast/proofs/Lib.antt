@@ -1,3 +1,4 @@
 pub mod Levels
 pub mod Choosing
+pub mod Returning
 pub mod Samples

@@ -1,8 +1,8 @@
 //! A function whose names are resolved. Its variables are numbered from 0: the parameters come first, then the
 //! declarations in the order of the source. `specs/Function.antt` says which parts make a function.
-ghost use Rattle.std.specs.Prelude.{◌≡◌};
+ghost use Rattle.std.specs.Prelude.{◌≡◌, ◌↔◌, List, ℤ, length};
 
-use crate::{Name, Stmt};
+use crate::{Expr, Name, Stmt};
 use sqlite_items::Items;
 use std::marker::Model;
 
@@ -37,7 +37,10 @@ impl Model for Func {
 }
 
 impl Func {
-    ghost use Rattle.c_ast.specs.Function.{Function, IsFunction, function};
+    ghost use Rattle.c_ast.specs.Function.{Function, IsFunction, ReturnsOne, function, program_of};
+    ghost use Rattle.c_ast.specs.Returns.{Returns};
+    ghost use Rattle.c_ast.specs.Value.{eval};
+    ghost use Rattle.c_ast.specs.View.{expression_of};
 
     /// The function of these parts, of which the first `params` variables are the parameters. Takes no memory.
     pub fn new(name: Name, params: u32, vars: Vec<Var>, body: Vec<Stmt>) -> Func
@@ -79,5 +82,24 @@ impl Func {
         ensures formed { IsFunction self.now }
     {
         self.body.as_slice()
+    }
+
+    fn one_return(&self) -> &Expr
+        ensures returns { ReturnsOne self.now result.now }
+        ensures formed { IsFunction self.now }
+    {
+        let [Stmt::Return(expr)] = self.body.as_slice() else {
+            unreachable!()
+        };
+        expr
+    }
+
+    /// The expression of its one `return`. Its value is what the function returns, and nothing else is.
+    pub fn returned(&self) -> &Expr
+        ensures returns { ReturnsOne self.now result.now }
+        ensures value { (inputs : List ℤ) (value : ℤ) → length inputs ≡ self.now.params
+            → (Returns (program_of self.now) inputs value ↔ (value ≡ eval (expression_of result.now) inputs)) }
+    {
+        self.one_return()
     }
 }

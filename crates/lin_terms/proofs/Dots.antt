@@ -27,3 +27,9 @@ dot-scaled k (x ∷ xs) (z ∷ zs) = ap (λ t. ((k *ℤ x) *ℤ z) +ℤ t) (dot-
 pub length-scaled : (k : ℤ) (xs : List ℤ) → length (scaled k xs) ≡ length xs
 length-scaled k [] = refl
 length-scaled k (x ∷ xs) = ap suc (length-scaled k xs)
+
+pub length-plus : (xs ys : List ℤ) → length xs ≡ length ys → length (plus xs ys) ≡ length xs
+length-plus [] [] len = refl
+length-plus [] (y ∷ ys) len = absurd (omega arith)
+length-plus (x ∷ xs) [] len = refl
+length-plus (x ∷ xs) (y ∷ ys) len = ap suc (length-plus xs ys (omega arith))

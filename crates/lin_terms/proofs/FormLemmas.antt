@@ -1,5 +1,5 @@
 -- The values of forms.
-use Rattle.std.proofs.Common.{◌≡◌, ◌↔◌, ℕ, zero, suc, ◌<◌, Bool, true, false, cond, ◌&&◌, eqb, Some, None, IsTrue, sym, List, [], ◌∷◌, get_or, set, replicate, refl, ap, ◌∙◌, arith}
+use Rattle.std.proofs.Common.{◌≡◌, ◌↔◌, ℕ, zero, suc, ◌<◌, Bool, true, false, cond, ◌&&◌, eqb, Some, None, IsTrue, sym, length, List, [], ◌∷◌, get_or, set, replicate, refl, ap, ◌∙◌, arith}
 use Rattle.std.specs.Prelude.{ℤ, pos, negsuc, ◌+ℤ◌, ◌*ℤ◌, unsigned_abs, Decides}
 use Rattle.lin_terms.specs.Narrow.{is_narrow, are_narrow, narrow}
 use Rattle.std.specs.List.{list_all}
@@ -94,6 +94,10 @@ narrow_constant : (b c : Bool) (f : Form) → b ≡ true → c ≡ true → cond
 narrow_constant true true f e g = refl
 narrow_constant true false f e g = absurd cc
 narrow_constant false c f e g = absurd cc
+
+pub length-zeros : (n : ℕ) → length (replicate n (pos 0)) ≡ n
+length-zeros zero = refl
+length-zeros (suc n) = ap suc (length-zeros n)
 
 all_zeros-narrow : (n : ℕ) → are_narrow (replicate n (pos 0)) ≡ true
 all_zeros-narrow zero = refl

@@ -102,6 +102,7 @@ fn multiples(alloc: Global, k: &i64, xs: &[i64]) -> Result<Vec<i64>, AllocError>
 pub fn add(alloc: Global, x: &Form, y: &Form) -> Result<Form, FormFault>
     requires { length x.now.coefs ≡ length y.now.coefs }
     ensures made { Makes result (narrow (sum_of x.now y.now)) }
+    ensures columns { IfOk result (λ form. length form.coefs ≡ length x.now.coefs) }
     ensures value { IfOk result (λ form. (values : List ℤ) → value_at form values ≡ value_at x.now values +ℤ value_at y.now values) }
 {
     let (xs, ys) = (x.coefs.as_slice(), y.coefs.as_slice());
@@ -116,6 +117,7 @@ pub fn add(alloc: Global, x: &Form, y: &Form) -> Result<Form, FormFault>
 /// The form times `k`.
 pub fn scale(alloc: Global, x: &Form, k: i64) -> Result<Form, FormFault>
     ensures made { Makes result (narrow (multiple_of k x.now)) }
+    ensures columns { IfOk result (λ form. length form.coefs ≡ length x.now.coefs) }
     ensures value { IfOk result (λ form. (values : List ℤ) → value_at form values ≡ k *ℤ value_at x.now values) }
 {
     let xs = x.coefs.as_slice();
@@ -136,6 +138,7 @@ fn zeros(alloc: Global, count: usize) -> Result<Items<i64>, AllocError>
 /// The form over `count` variables that is `value` at each point.
 pub fn constant_form(alloc: Global, count: usize, value: i64) -> Result<Form, FormFault>
     ensures made { Makes result (narrow (constant_form count value)) }
+    ensures columns { IfOk result (λ form. length form.coefs ≡ count) }
     ensures value { IfOk result (λ form. (values : List ℤ) → value_at form values ≡ value) }
 {
     if !is_narrow(i128::from(value)) {
@@ -152,6 +155,7 @@ pub fn constant_form(alloc: Global, count: usize, value: i64) -> Result<Form, Fo
 pub fn variable_form(alloc: Global, count: usize, x: usize) -> Result<Form, AllocError>
     requires { x < count }
     ensures made { IfOk result (λ form. form ≡ variable_form count x) }
+    ensures columns { IfOk result (λ form. length form.coefs ≡ count) }
     ensures value { IfOk result (λ form. (values : List ℤ) → value_at form values ≡ slice_index_or values x (pos 0)) }
 {
     let mut coefs = zeros(alloc, count)?;

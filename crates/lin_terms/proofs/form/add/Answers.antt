@@ -1,4 +1,5 @@
-use Rattle.std.proofs.Common.{rules, FitsSigned, w64, to_z-of_z, ◌∙◌}
+use Rattle.std.proofs.Common.{rules, FitsSigned, w64, to_z-of_z, ◌∙◌, ap, length}
+use Rattle.lin_terms.proofs.Dots.{length-plus}
 use Rattle.lin_terms.proofs.FormLemmas.{value_at-made_sum}
 use Rattle.lin_terms.proofs.form.add.Goals as goal
 
@@ -9,3 +10,8 @@ returns-clause-value c =
     let y-fits : FitsSigned w64 c.args.y.now.constant = search rules in
     let coefs = rw (c.as_slice-xs.ensures, c.as_slice-ys.ensures) at (c.from_vec-coefs.ensures ∙ c.in_ok-sums.ensures) in
     simp to_z-of_z (value_at-made_sum _ c.args.x.now c.args.y.now coefs (simp to_z-of_z at c.narrow_sum-constant.ensures))
+
+pub returns-clause-columns : goal.returns-clause-columns
+returns-clause-columns c =
+    let coefs = rw (c.as_slice-xs.ensures, c.as_slice-ys.ensures) at (c.from_vec-coefs.ensures ∙ c.in_ok-sums.ensures) in
+    ap length coefs ∙ length-plus c.args.x.now.coefs c.args.y.now.coefs c.requires

@@ -1,5 +1,5 @@
-use Rattle.std.proofs.Common.{rules, to_z-of_z, FitsSigned, w64, refl}
-use Rattle.lin_terms.proofs.FormLemmas.{narrow-constant_form, value_at-made_constant}
+use Rattle.std.proofs.Common.{rules, to_z-of_z, FitsSigned, w64, refl, ap, length, ◌∙◌}
+use Rattle.lin_terms.proofs.FormLemmas.{narrow-constant_form, value_at-made_constant, length-zeros}
 use Rattle.lin_terms.proofs.form.constant_form.Goals as goal
 
 pub returns : goal.returns
@@ -7,5 +7,6 @@ returns c =
     let value-fits : FitsSigned w64 c.args.value = c.ranges.value in
     simp to_z-of_z (record {
       made = narrow-constant_form _ c.args.count c.args.value (search rules) c.in_ok-coefs.ensures refl;
+      columns = ap length c.in_ok-coefs.ensures ∙ length-zeros c.args.count;
       value = value_at-made_constant _ c.args.count c.args.value c.in_ok-coefs.ensures refl;
     })
