@@ -1,6 +1,6 @@
 -- A function of one `return` returns the value of its expression, and nothing else.
 use Rattle.std.proofs.Common.{◌≡◌, ◌↔◌, ℕ, zero, suc, ◌+◌, ◌<◌, ◌≤◌, Bool, true, false, eqb, ◌||◌, List, [], ◌∷◌, length, Option, Some, None, refl, sym, ap, subst, ◌∙◌, arith}
-use Rattle.std.specs.Prelude.{ℤ, pos}
+use Rattle.std.specs.Prelude.{ℤ, pos, MatchOption}
 use Rattle.std.proofs.lemmas.Bool.{cases_lt}
 use Rattle.std.proofs.lemmas.Bool.Decides.{nat_tests}
 use Rattle.c_ast.specs.declared.expr.Expr.{Expr}
@@ -10,6 +10,7 @@ use Rattle.c_ast.specs.Tree.{Expression, Statements, Nil, Return, Program}
 use Rattle.c_ast.specs.View.{expression_of, statements_of}
 use Rattle.c_ast.specs.Value.{eval}
 use Rattle.c_ast.specs.Step.{Scope, Run, is_in, first_variables, start, spread, spread_one, spread_from}
+use Rattle.c_ast.specs.Narrow.{all_narrow, only_if, narrow_value}
 use Rattle.c_ast.specs.Returns.{Returns, result_within}
 use Rattle.c_ast.specs.Function.{Function, IsFunction, ReturnsOne, program_of}
 use Rattle.c_ast.proofs.Levels.{put_in_front-Return}
@@ -49,8 +50,27 @@ pub Returns-Return : (f : Function) (e : Expr) → IsFunction f → ReturnsOne f
 Returns-Return f e is one inputs value len =
     let body : statements_of f.body ≡ Return (expression_of e) Nil = ap statements_of one.body ∙ statements_of-Return e in
     let scope = first_variables f.params in
-    let env : spread scope (length f.vars) inputs ≡ inputs = rw is.params (spread-parameters f.params inputs len) in
-    (
+    let env : spread scope (length f.vars) inputs ≡ inputs = rw is.params (spread-parameters f.params inputs len) in (
       λ returns. result_within-Return scope (expression_of e) returns.steps inputs value (rw (body, env) at returns.ends),
       λ equal. record { steps = 1; ends = rw (body, env) (ap Some (sym equal)) },
     )
+
+-- ---- the value that is handed out
+
+same_return : (f : Function) (e e' : Expr) → ReturnsOne f e → ReturnsOne f e' → e' ≡ e
+same_return f e e' one one' = let bodies : stmt.Return e' ∷ [] ≡ stmt.Return e ∷ [] = sym one'.body ∙ one.body in cc
+
+told : (f : Function) (e : Expr) (inputs : List ℤ) (narrow : Bool) (result : Option ℤ) → ReturnsOne f e → all_narrow (expression_of e) inputs ≡ narrow
+    → result ≡ only_if narrow (eval (expression_of e) inputs) → Returns (program_of f) inputs (eval (expression_of e) inputs)
+    → MatchOption result ((e' : Expr) → ReturnsOne f e' → all_narrow (expression_of e') inputs ≡ false) (Returns (program_of f) inputs)
+told f e inputs true result one is given returns = rw given returns
+told f e inputs false result one is given returns =
+    rw given (λ e' one'. subst (λ (x : Expr). all_narrow (expression_of x) inputs ≡ false) (sym (same_return f e e' one one')) is)
+
+-- The narrow value of the one expression is what the function returns, and there is none where a part of it is wide.
+pub Returns-narrow_value : (f : Function) (e : Expr) (inputs : List ℤ) (result : Option ℤ) → ReturnsOne f e
+    → ((values : List ℤ) (value : ℤ) → length values ≡ f.params → (Returns (program_of f) values value ↔ (value ≡ eval (expression_of e) values)))
+    → length inputs ≡ f.params → result ≡ narrow_value (expression_of e) inputs
+    → MatchOption result ((e' : Expr) → ReturnsOne f e' → all_narrow (expression_of e') inputs ≡ false) (Returns (program_of f) inputs)
+Returns-narrow_value f e inputs result one value len given =
+    told f e inputs (all_narrow (expression_of e) inputs) result one refl given ((value inputs (eval (expression_of e) inputs) len).1 refl)

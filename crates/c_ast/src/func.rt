@@ -1,8 +1,10 @@
 //! A function whose names are resolved. Its variables are numbered from 0: the parameters come first, then the
 //! declarations in the order of the source. `specs/Function.antt` says which parts make a function.
-ghost use Rattle.std.specs.Prelude.{◌≡◌, ◌↔◌, List, ℤ, length};
+ghost use Rattle.std.specs.Prelude.{◌≡◌, ◌↔◌, false, List, ℤ, length, MatchOption};
+ghost use Rattle.c_ast.specs.declared.expr.Expr.{Expr};
+ghost use Rattle.c_ast.specs.Narrow.{all_narrow};
 
-use crate::{Expr, Name, Stmt};
+use crate::{Expr, Name, Stmt, value_of};
 use sqlite_items::Items;
 use std::marker::Model;
 
@@ -101,5 +103,16 @@ impl Func {
             → (Returns (program_of self.now) inputs value ↔ (value ≡ eval (expression_of result.now) inputs)) }
     {
         self.one_return()
+    }
+
+    /// What the function returns where the parameters have these values. `None` where a part of its expression has a
+    /// value of 2^100 or more in size.
+    pub fn result(&self, inputs: &[i128]) -> Option<i128>
+        requires { length inputs.now ≡ self.now.params }
+        ensures { MatchOption result
+            ((e : Expr) → ReturnsOne self.now e → all_narrow (expression_of e) inputs.now ≡ false)
+            (Returns (program_of self.now) inputs.now) }
+    {
+        value_of(self.returned(), inputs)
     }
 }

@@ -9,6 +9,8 @@ mod expr;
 mod func;
 mod name;
 mod stmt;
+#[cfg(test)]
+mod tests;
 mod value;
 
 pub use expr::{BinOp, Expr, UnOp};

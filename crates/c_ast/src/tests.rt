@@ -1,0 +1,119 @@
+//! Values that were worked out by hand, from the meaning of C's operators. The trees here have the variables 0 and 1.
+ghost use Rattle.std.specs.Prelude.{◌<◌, IfOk};
+ghost use Rattle.c_ast.specs.View.{expression_of};
+ghost use Rattle.c_ast.specs.Value.{VariablesBelow};
+
+use crate::{BinOp, Expr, UnOp, value_of};
+use sqlite_items::Boxed;
+use std::alloc::{AllocError, Global};
+use std::test::Fail;
+
+/// 2^99, the half of the least wide value.
+const HALF: i128 = 633_825_300_114_114_700_748_351_602_688;
+
+fn var(x: u32) -> Expr
+    requires { x < 2 }
+    ensures { VariablesBelow 2 (expression_of result) }
+{
+    Expr::Var(x)
+}
+
+fn un(alloc: Global, op: UnOp, operand: Expr) -> Result<Expr, AllocError>
+    requires { VariablesBelow 2 (expression_of operand) }
+    ensures { IfOk result (λ made. VariablesBelow 2 (expression_of made)) }
+{
+    Ok(Expr::Un(op, Boxed::new(alloc, operand)?))
+}
+
+fn bin(alloc: Global, left: Expr, op: BinOp, right: Expr) -> Result<Expr, AllocError>
+    requires left { VariablesBelow 2 (expression_of left) }
+    requires right { VariablesBelow 2 (expression_of right) }
+    ensures { IfOk result (λ made. VariablesBelow 2 (expression_of made)) }
+{
+    let left = Boxed::new(alloc, left)?;
+    let right = Boxed::new(alloc, right)?;
+    Ok(Expr::Bin(op, left, right))
+}
+
+fn cond(alloc: Global, test: Expr, first: Expr, second: Expr) -> Result<Expr, AllocError>
+    requires test { VariablesBelow 2 (expression_of test) }
+    requires first { VariablesBelow 2 (expression_of first) }
+    requires second { VariablesBelow 2 (expression_of second) }
+    ensures { IfOk result (λ made. VariablesBelow 2 (expression_of made)) }
+{
+    let test = Boxed::new(alloc, test)?;
+    let first = Boxed::new(alloc, first)?;
+    let second = Boxed::new(alloc, second)?;
+    Ok(Expr::Cond(test, first, second))
+}
+
+#[test]
+fn operators_have_their_values(rt: HostRuntime) -> Result<(), Fail> {
+    let alloc = rt.alloc();
+    let rows = [
+        (BinOp::Mul, 6, -7, Some(-42)),
+        (BinOp::Mul, HALF, 2, None),
+        (BinOp::Mul, i128::MAX, i128::MAX, None),
+        (BinOp::Add, 6, -7, Some(-1)),
+        (BinOp::Add, HALF, HALF - 1, Some(HALF * 2 - 1)),
+        (BinOp::Add, HALF, HALF, None),
+        (BinOp::Sub, 6, -7, Some(13)),
+        (BinOp::Sub, -HALF, HALF, None),
+        (BinOp::Less, -7, 6, Some(1)),
+        (BinOp::Less, 6, 6, Some(0)),
+        (BinOp::LessEq, 6, 6, Some(1)),
+        (BinOp::LessEq, 7, 6, Some(0)),
+        (BinOp::Greater, 7, 6, Some(1)),
+        (BinOp::Greater, 6, 6, Some(0)),
+        (BinOp::GreaterEq, 6, 6, Some(1)),
+        (BinOp::GreaterEq, -7, 6, Some(0)),
+        (BinOp::Equal, 6, 6, Some(1)),
+        (BinOp::Equal, 6, -6, Some(0)),
+        (BinOp::NotEqual, 6, -6, Some(1)),
+        (BinOp::NotEqual, 6, 6, Some(0)),
+        (BinOp::And, 6, -1, Some(1)),
+        (BinOp::And, 6, 0, Some(0)),
+        (BinOp::And, 0, HALF * 2, None),
+        (BinOp::Or, 0, -1, Some(1)),
+        (BinOp::Or, 0, 0, Some(0)),
+        (BinOp::Or, 1, HALF * 2, None),
+    ];
+    for (op, left, right, want) in rows {
+        let expr = bin(alloc, var(0), op, var(1))?;
+        let got = value_of(&expr, &[left, right]);
+        assert_eq!(rt; got, want, "{left} {op:?} {right}");
+    }
+    Ok(())
+}
+
+#[test]
+fn choices_and_signs_have_their_values(rt: HostRuntime) -> Result<(), Fail> {
+    let alloc = rt.alloc();
+    let rows = [
+        (UnOp::Plus, 7, Some(7)),
+        (UnOp::Minus, 7, Some(-7)),
+        (UnOp::Minus, 1 - HALF * 2, Some(HALF * 2 - 1)),
+        (UnOp::Minus, -HALF * 2, None),
+        (UnOp::Not, 7, Some(0)),
+        (UnOp::Not, 0, Some(1)),
+    ];
+    for (op, operand, want) in rows {
+        let expr = un(alloc, op, var(0))?;
+        assert_eq!(rt; value_of(&expr, &[operand, 0]), want, "{op:?} {operand}");
+    }
+    // The variable that is 5 is taken where the other is not 0; both parts have a value always.
+    for (test, part, want) in [
+        (-1, 5, Some(5)),
+        (0, 5, Some(0)),
+        (0, HALF * 2, None),
+        (1, HALF * 2, None),
+    ] {
+        let expr = cond(alloc, var(0), var(1), var(0))?;
+        assert_eq!(rt;
+            value_of(&expr, &[test, part]),
+            want,
+            "{test} ? {part} : {test}"
+        );
+    }
+    Ok(())
+}

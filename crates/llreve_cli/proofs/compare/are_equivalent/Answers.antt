@@ -1,0 +1,12 @@
+use Rattle.std.proofs.Common.{sym, ◌∙◌}
+use Rattle.std.proofs.lemmas.Result.{IfOk-weaker}
+use Rattle.c_ast.specs.View.{expression_of}
+use Rattle.llreve_cli.specs.Compare.{AreSame}
+use Rattle.llreve_cli.proofs.compare.are_equivalent.Goals as goal
+
+pub returns-clause-never_differ : goal.returns-clause-never_differ
+returns-clause-never_differ c =
+    IfOk-weaker c.have_equal_forms.result (λ same. AreSame same c.params.result (expression_of c.returned-left.result.now) (expression_of c.returned-right.result.now)) _
+    (λ same are is inputs v w len first_returns second_returns.
+    (c.returned-left.ensures.value inputs v len).0 first_returns ∙ are.one_value is inputs ∙ sym ((c.returned-right.ensures.value inputs w (len ∙ c.requires)).0 second_returns))
+    c.have_equal_forms.ensures

@@ -1,0 +1,53 @@
+//! The whole command on one thread.
+ghost use Rattle.std.specs.Prelude.{◌≡◌, ◌≢◌, map, string_bytes, codes, IfOk};
+ghost use Rattle.std.specs.Io.KnownBytes.{Appends, Keeps};
+ghost use Rattle.llreve_cli.specs.declared.outcome.Outcome.{Outcome};
+ghost use Rattle.llreve_cli.specs.Leads.{Leads, AreEquivalent};
+ghost use Rattle.llreve_cli.specs.Tells.{Tells};
+
+use crate::judge::judge;
+use crate::outcome::{NO_MEMORY, Outcome};
+use crate::stop::Stop;
+use crate::tell::tell;
+use re_base::{Files, Sink};
+use std::alloc::{AllocError, Global};
+
+// What the words and the files lead to.
+fn settle<F: Files>(alloc: Global, words: &[String], files: &mut F) -> Result<Outcome, AllocError>
+    ensures { IfOk result (Leads (map string_bytes words.now) (F.text files.old) (F.faults files.old) (F.faults files.new)) }
+{
+    match judge(alloc, words, files) {
+        Ok(outcome) => Ok(outcome),
+        Err(Stop::Refused(fault)) => Ok(Outcome::Refused(fault)),
+        Err(Stop::Memory) => Err(AllocError),
+    }
+}
+
+/// Compares the functions of the two files that `words` name, writes what is known of them, and answers the status:
+/// 0 equivalent, 2 unknown, 3 refused words or input, 4 a file could not be read, 5 a write failed, 6 want of memory.
+/// `words` leave out the program's name.
+pub fn llreve_alone<F: Files, O: Sink, E: Sink>(
+    alloc: Global,
+    words: &[String],
+    files: &mut F,
+    out: &mut O,
+    err: &mut E,
+) -> u8
+    // Unless memory ran out, the words and the files lead to an outcome, and that is what is told.
+    ensures answer { result ≢ 6 → (outcome : Outcome)
+        × Leads (map string_bytes words.now) (F.text files.old) (F.faults files.old) (F.faults files.new) outcome
+        × Tells outcome (O.written out.old) (O.written out.new) (E.written err.old) (E.written err.new)
+        (O.faults out.old) (O.faults out.new) (E.faults err.old) (E.faults err.new) result }
+
+    // Where it ran out, nothing is written.
+    ensures memory { result ≡ 6 → Keeps (O.written out.old) (O.written out.new) × Keeps (E.written err.old) (E.written err.new) }
+
+    // Status 0 means that no input makes the two functions return differently.
+    ensures equivalent { result ≡ 0 → AreEquivalent (map string_bytes words.now) (F.text files.old)
+        × Appends (O.written out.old) (O.written out.new) (codes "equivalent\n") }
+{
+    match settle(alloc, words, files) {
+        Ok(outcome) => tell(alloc, &outcome, out, err),
+        Err(_) => NO_MEMORY,
+    }
+}

@@ -1,0 +1,63 @@
+//! Two functions of one `return` are compared by the linear forms of what they return.
+ghost use Rattle.std.specs.Prelude.{◌≡◌, ◌↔◌, IfOk, IfErr, IsTrue};
+ghost use Rattle.c_ast.specs.Value.{VariablesBelow};
+ghost use Rattle.c_ast.specs.View.{expression_of};
+ghost use Rattle.llreve_cli.specs.Compare.{HaveEqualForms, NeverDiffer, AreSame, Compares};
+ghost use Rattle.llreve_cli.specs.Stops.{StopsComparing};
+
+use crate::fault::Fault;
+use crate::form::{NoForm, form_of};
+use crate::outcome::Outcome;
+use crate::stop::Stop;
+use c_ast::{Expr, Func};
+use std::alloc::{AllocError, Global};
+
+// Whether both expressions over `count` variables have a form, and the forms are equal.
+fn have_equal_forms(
+    alloc: Global,
+    count: usize,
+    first: &Expr,
+    second: &Expr,
+) -> Result<bool, AllocError>
+    requires first { VariablesBelow count (expression_of first.now) }
+    requires second { VariablesBelow count (expression_of second.now) }
+    ensures { IfOk result (λ same. AreSame same count (expression_of first.now) (expression_of second.now)) }
+{
+    let first_form = match form_of(alloc, count, first) {
+        Ok(form) => form,
+        Err(NoForm::Absent) => return Ok(false),
+        Err(NoForm::Memory) => return Err(AllocError),
+    };
+    let second_form = match form_of(alloc, count, second) {
+        Ok(form) => form,
+        Err(NoForm::Absent) => return Ok(false),
+        Err(NoForm::Memory) => return Err(AllocError),
+    };
+    Ok(first_form.same(&second_form))
+}
+
+// Whether the two functions, which have as many parameters, return equal linear forms.
+fn are_equivalent(alloc: Global, first: &Func, second: &Func) -> Result<bool, AllocError>
+    requires { first.now.params ≡ second.now.params }
+    ensures forms { IfOk result (λ same. IsTrue same ↔ HaveEqualForms first.now second.now) }
+    ensures never_differ { IfOk result (λ same. IsTrue same → NeverDiffer first.now second.now) }
+{
+    let (left, right) = (first.returned(), second.returned());
+    have_equal_forms(alloc, first.params() as usize, left, right)
+}
+
+/// What comparing the two functions tells. Different numbers of parameters are refused.
+pub fn compare(alloc: Global, first: &Func, second: &Func) -> Result<Outcome, Stop>
+    ensures outcome { IfOk result (Compares first.now second.now) }
+    ensures stopped { IfErr result (StopsComparing first.now second.now) }
+{
+    let (m, n) = (first.params(), second.params());
+    if m != n {
+        return Err(Stop::Refused(Fault::Arity(m, n)));
+    }
+    if are_equivalent(alloc, first, second)? {
+        Ok(Outcome::Equivalent)
+    } else {
+        Ok(Outcome::Unknown)
+    }
+}

@@ -1,0 +1,6 @@
+pub mod Causes
+pub mod Told
+pub mod FileFaults
+pub mod Counts
+pub mod MemFiles
+pub mod MemSink
