@@ -1,5 +1,5 @@
 -- The tree of each kind of expression and statement.
-use Rattle.std.proofs.Common.{◌≡◌, List, ap, ◌∙◌}
+use Rattle.std.proofs.Common.{◌≡◌, ap, ◌∙◌}
 use Rattle.c_ast.specs.Tree as tree
 use Rattle.c_ast.specs.Tree.{Expression, Statements}
 use Rattle.c_ast.specs.View.{expression_level, expression_of, statement_level, put_in_front}

@@ -1,15 +1,13 @@
 -- A function of one `return` returns the value of its expression, and nothing else.
-use Rattle.std.proofs.Common.{◌≡◌, ◌↔◌, ℕ, zero, suc, ◌+◌, ◌<◌, ◌≤◌, Bool, true, false, eqb, ◌||◌, List, [], ◌∷◌, length, Option, Some, None, refl, sym, ap, subst, ◌∙◌, arith}
-use Rattle.std.specs.Prelude.{ℤ, pos, MatchOption}
-use Rattle.std.proofs.lemmas.Bool.{cases_lt}
+use Rattle.std.proofs.Common.{◌≡◌, ◌↔◌, ℕ, zero, suc, ◌+◌, ◌<◌, ◌≤◌, Bool, true, false, eqb, ◌||◌, List, [], ◌∷◌, length, Option, Some, refl, sym, ap, subst, ◌∙◌, arith}
+use Rattle.std.specs.Prelude.{ℤ, MatchOption}
 use Rattle.std.proofs.lemmas.Bool.Decides.{nat_tests}
 use Rattle.c_ast.specs.declared.expr.Expr.{Expr}
-use Rattle.c_ast.specs.declared.stmt.Stmt.{Stmt}
 use Rattle.c_ast.specs.declared.stmt.Stmt.TheVariants as stmt
-use Rattle.c_ast.specs.Tree.{Expression, Statements, Nil, Return, Program}
+use Rattle.c_ast.specs.Tree.{Expression, Nil, Return}
 use Rattle.c_ast.specs.View.{expression_of, statements_of}
 use Rattle.c_ast.specs.Value.{eval}
-use Rattle.c_ast.specs.Step.{Scope, Run, is_in, first_variables, start, spread, spread_one, spread_from}
+use Rattle.c_ast.specs.Step.{Scope, Run, is_in, first_variables, spread, spread_from}
 use Rattle.c_ast.specs.Narrow.{all_narrow, only_if, narrow_value}
 use Rattle.c_ast.specs.Returns.{Returns, result_within}
 use Rattle.c_ast.specs.Function.{Function, IsFunction, ReturnsOne, program_of}

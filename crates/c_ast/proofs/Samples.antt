@@ -1,5 +1,5 @@
 -- The definitions on small functions.
-use Rattle.std.proofs.Common.{◌≡◌, true, false, [], ◌∷◌, Option, Some, None, pos, negsuc, refl}
+use Rattle.std.proofs.Common.{◌≡◌, true, false, [], ◌∷◌, Some, pos, negsuc, refl}
 use Rattle.c_ast.specs.declared.expr.UnOp.TheVariants.{Minus, Not}
 use Rattle.c_ast.specs.declared.expr.BinOp.TheVariants.{Add, Sub, Mul, Less, And}
 use Rattle.c_ast.specs.Tree.{Expression, Num, Var, Un, Bin, Cond, Statements, Nil, Set, If, Loop, Break, Continue, Return, Block, Program}

@@ -1,4 +1,4 @@
-use Rattle.std.proofs.Common.{rules, ◌≡◌, ◌∙◌, ap, to_z-of_z, FitsSigned}
+use Rattle.std.proofs.Common.{rules, ◌∙◌, ap, to_z-of_z, FitsSigned}
 use Rattle.std.specs.Int.{w128}
 use Rattle.c_ast.specs.Narrow.{is_narrow, only_if}
 use Rattle.c_ast.proofs.Choosing.{narrow_value-Cond}
