@@ -1,5 +1,5 @@
 -- From what the parts tell to what the words and the files lead to.
-use Rattle.std.proofs.Common.{◌≡◌, ◌≢◌, ℕ, ◌+◌, ◌-◌, ◌^◌, ◌≤◌, min, List, length, Option, Some, refl, sym, ap, subst, ◌∙◌, arith}
+use Rattle.std.proofs.Common.{◌≡◌, ℕ, ◌≤◌, List, length, Option, Some, sym, subst, arith}
 use Rattle.c_ast.specs.Function.{Function}
 use Rattle.c_reader.specs.Reads.{Reads}
 use Rattle.re_base.specs.Causes.{Rose}

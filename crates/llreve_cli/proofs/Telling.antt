@@ -6,7 +6,7 @@ use Rattle.llreve_cli.specs.declared.fault.Fault.{Fault}
 use Rattle.llreve_cli.specs.declared.fault.Fault.TheVariants as fault
 use Rattle.llreve_cli.specs.declared.outcome.Outcome.{Outcome}
 use Rattle.llreve_cli.specs.declared.outcome.Outcome.TheVariants as outcome
-use Rattle.llreve_cli.specs.Texts.{status_of, fault_status}
+use Rattle.llreve_cli.specs.Texts.{fault_status}
 use Rattle.llreve_cli.specs.Leads.{AreEquivalent, Leads, no_command, first_unread, first_long, second_unread, second_long, first_unparsed, second_unparsed, other_arity, other_forms, equal_forms}
 use Rattle.llreve_cli.specs.Tells.{Tells}
 

@@ -1,5 +1,5 @@
 -- What it means that two functions of one `return` each are equivalent.
-use Rattle.std.specs.Prelude.{◌≡◌, ℕ, ◌↔◌, ℤ, Bool, IsTrue, MatchBool, List, length, Option, Some}
+use Rattle.std.specs.Prelude.{◌≡◌, ℕ, ◌↔◌, ℤ, Bool, IsTrue, List, length, Some}
 use Rattle.c_ast.specs.declared.expr.Expr.{Expr}
 use Rattle.c_ast.specs.Tree.{Expression}
 use Rattle.c_ast.specs.View.{expression_of}

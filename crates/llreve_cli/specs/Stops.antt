@@ -4,7 +4,6 @@ use Rattle.re_base.specs.Causes.{Rose}
 use Rattle.re_base.specs.Told.{IsLong}
 use Rattle.c_ast.specs.Function.{Function}
 use Rattle.c_reader.specs.Reads.{Reads}
-use Rattle.llreve_cli.specs.declared.fault.Fault.{Fault}
 use Rattle.llreve_cli.specs.declared.fault.Fault.TheVariants as fault
 use Rattle.llreve_cli.specs.declared.stop.Stop.{Stop}
 use Rattle.llreve_cli.specs.declared.stop.Stop.TheVariants as stop

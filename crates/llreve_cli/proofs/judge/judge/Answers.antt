@@ -1,4 +1,4 @@
-use Rattle.std.proofs.Common.{◌≡◌, ◌≤◌, ℕ, List, Option, sym, refl, arith, map, string_bytes}
+use Rattle.std.proofs.Common.{sym, arith, map, string_bytes}
 use Rattle.std.proofs.lemmas.Result.{err_from_is_err_and, MatchResult-from_both, IfOk-weaker, IfErr-weaker}
 use Rattle.llreve_cli.specs.Leads.{no_command, AreFunctions}
 use Rattle.llreve_cli.specs.Compare.{Compares}
