@@ -5,3 +5,6 @@ pub mod Step
 pub mod Function
 pub mod Returns
 pub mod Narrow
+pub mod Trace
+pub mod Segment
+pub mod Formed

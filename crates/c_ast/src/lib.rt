@@ -8,13 +8,17 @@
 mod expr;
 mod func;
 mod name;
+mod place;
 mod stmt;
 #[cfg(test)]
 mod tests;
+mod trace;
 mod value;
 
 pub use expr::{BinOp, Expr, UnOp};
 pub use func::{Func, Var};
 pub use name::Name;
+pub use place::{Place, Side};
 pub use stmt::Stmt;
+pub use trace::{Event, Pair, Trace};
 pub use value::value_of;

@@ -1,0 +1,16 @@
+//! The places of a function at which runs are compared.
+
+/// A place: the entry, a mark by its number, or the exit. Their order is this one, marks by rising number.
+#[derive(Clone, Copy, Debug, PartialEq, Eq, PartialOrd, Ord)]
+pub enum Place {
+    Entry,
+    Mark(u32),
+    Exit,
+}
+
+/// Which of two functions is spoken of.
+#[derive(Clone, Copy, Debug, PartialEq, Eq)]
+pub enum Side {
+    A,
+    B,
+}
