@@ -8,3 +8,5 @@ pub mod Narrow
 pub mod Trace
 pub mod Segment
 pub mod Formed
+pub mod Bounds
+pub mod Comparison

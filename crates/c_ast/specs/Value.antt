@@ -1,6 +1,6 @@
 -- The value of an expression (ISO C11, 6.5), over integers of any size. Every expression has one, and evaluating it
 -- changes nothing, so the operands that C would skip have a value too.
-use Rattle.std.specs.Prelude.{ℕ, zero, suc, ◌<◌, ◌≤ℤ◌, Bool, true, false, if◌then◌else◌, not, ◌&&◌, ◌||◌, List, ℤ, pos, negsuc, ◌+ℤ◌, ◌-ℤ◌, ◌*ℤ◌, neg_ℤ, int_lt, int_le, slice_index_or}
+use Rattle.std.specs.Prelude.{ℕ, zero, suc, ◌<◌, Bool, true, false, if◌then◌else◌, not, ◌&&◌, ◌||◌, List, ℤ, pos, negsuc, ◌+ℤ◌, ◌-ℤ◌, ◌*ℤ◌, neg_ℤ, int_lt, int_le, slice_index_or}
 use Rattle.c_ast.specs.declared.expr.UnOp.{UnOp}
 use Rattle.c_ast.specs.declared.expr.UnOp.TheVariants.{Plus, Minus, Not}
 use Rattle.c_ast.specs.declared.expr.BinOp.{BinOp}
@@ -56,11 +56,3 @@ VariablesBelow n (Var x) = x < n
 VariablesBelow n (Un op e) = VariablesBelow n e
 VariablesBelow n (Bin op e f) = VariablesBelow n e × VariablesBelow n f
 VariablesBelow n (Cond c e f) = VariablesBelow n c × VariablesBelow n e × VariablesBelow n f
-
--- Each constant of the expression is at least 0, as the source spells it.
-abbrev pub HasNaturalConstants : Expression → Type 0
-HasNaturalConstants (Num z) = pos 0 ≤ℤ z
-HasNaturalConstants (Var x) = Unit {0}
-HasNaturalConstants (Un op e) = HasNaturalConstants e
-HasNaturalConstants (Bin op e f) = HasNaturalConstants e × HasNaturalConstants f
-HasNaturalConstants (Cond c e f) = HasNaturalConstants c × HasNaturalConstants e × HasNaturalConstants f

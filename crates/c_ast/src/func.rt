@@ -1,11 +1,14 @@
 //! A function whose names are resolved. Its variables are numbered from 0: the parameters come first, then the
 //! declarations in the order of the source. `specs/Function.antt` says which parts make a function.
-ghost use Rattle.std.specs.Prelude.{◌≡◌, ◌↔◌, false, List, ℤ, length, MatchOption};
+ghost use Rattle.std.specs.Prelude.{◌≡◌, ◌↔◌, false, List, ℤ, length, MatchOption, IfSome, IfOk, IsTrue};
 ghost use Rattle.c_ast.specs.declared.expr.Expr.{Expr};
 ghost use Rattle.c_ast.specs.Narrow.{all_narrow};
 
+use crate::copy::{copy_stmts, copy_vars};
+use crate::same::{same_stmts, same_vars};
 use crate::{Expr, Name, Stmt, value_of};
 use sqlite_items::Items;
+use std::alloc::{AllocError, Global};
 use std::marker::Model;
 
 /// A variable's name, and the line of its declaration, from 1.
@@ -41,7 +44,7 @@ impl Model for Func {
 impl Func {
     ghost use Rattle.c_ast.specs.Function.{Function, IsFunction, ReturnsOne, function, program_of};
     ghost use Rattle.c_ast.specs.Returns.{Returns};
-    ghost use Rattle.c_ast.specs.Value.{eval};
+    ghost use Rattle.c_ast.specs.Value.{eval, VariablesBelow};
     ghost use Rattle.c_ast.specs.View.{expression_of};
 
     /// The function of these parts, of which the first `params` variables are the parameters. Takes no memory.
@@ -86,33 +89,63 @@ impl Func {
         self.body.as_slice()
     }
 
-    fn one_return(&self) -> &Expr
-        ensures returns { ReturnsOne self.now result.now }
+    fn one_return(&self) -> Option<&Expr>
+        ensures returns { MatchOption result ((e : Expr) → ¬ ReturnsOne self.now e) (λ e. ReturnsOne self.now e.now) }
         ensures formed { IsFunction self.now }
     {
-        let [Stmt::Return(expr)] = self.body.as_slice() else {
-            unreachable!()
-        };
-        expr
+        match self.body.as_slice() {
+            [Stmt::Return(expr)] => Some(expr),
+            _ => None,
+        }
     }
 
-    /// The expression of its one `return`. Its value is what the function returns, and nothing else is.
-    pub fn returned(&self) -> &Expr
-        ensures returns { ReturnsOne self.now result.now }
-        ensures value { (inputs : List ℤ) (value : ℤ) → length inputs ≡ self.now.params
-            → (Returns (program_of self.now) inputs value ↔ (value ≡ eval (expression_of result.now) inputs)) }
+    /// The expression of its body, where that is one `return`. Its value is then what the function returns, and
+    /// nothing else is.
+    pub fn returned(&self) -> Option<&Expr>
+        ensures returns { MatchOption result ((e : Expr) → ¬ ReturnsOne self.now e) (λ e. ReturnsOne self.now e.now) }
+        ensures variables { IfSome result (λ e. VariablesBelow self.now.params (expression_of e.now)) }
+        ensures value { IfSome result (λ e. (inputs : List ℤ) (value : ℤ) → length inputs ≡ self.now.params
+            → (Returns (program_of self.now) inputs value ↔ (value ≡ eval (expression_of e.now) inputs))) }
     {
         self.one_return()
     }
 
-    /// What the function returns where the parameters have these values. `None` where a part of its expression has a
-    /// value of 2^100 or more in size.
+    /// What the function returns where the parameters have these values and its body is one `return`. `None` where it
+    /// is not, or where a part of its expression has a value of 2^100 or more in size.
     pub fn result(&self, inputs: &[i128]) -> Option<i128>
         requires { length inputs.now ≡ self.now.params }
         ensures { MatchOption result
             ((e : Expr) → ReturnsOne self.now e → all_narrow (expression_of e) inputs.now ≡ false)
             (Returns (program_of self.now) inputs.now) }
     {
-        value_of(self.returned(), inputs)
+        match self.returned() {
+            Some(expr) => value_of(expr, inputs),
+            None => None,
+        }
+    }
+
+    /// Whether all is equal. Takes no memory.
+    pub fn same(&self, other: &Func) -> bool
+        ensures { IsTrue result ↔ (self.now ≡ other.now) }
+    {
+        self.params == other.params
+            && self.name.same(&other.name)
+            && same_vars(self.vars.as_slice(), other.vars.as_slice())
+            && same_stmts(self.body.as_slice(), other.body.as_slice())
+    }
+
+    /// An equal function.
+    pub fn copy(&self, alloc: Global) -> Result<Func, AllocError>
+        ensures { IfOk result (λ made. made ≡ self.now) }
+    {
+        let name = self.name.copy()?;
+        let vars = copy_vars(alloc, self.vars.as_slice())?;
+        let body = copy_stmts(alloc, self.body.as_slice())?;
+        Ok(Func {
+            name,
+            params: self.params,
+            vars,
+            body,
+        })
     }
 }

@@ -5,20 +5,27 @@
 //! `Returns.antt` what a function returns. All numbers of a run are integers of any size.
 #![tactic(auto)]
 
+mod copy;
 mod expr;
 mod func;
 mod name;
 mod place;
+mod same;
+mod settings;
 mod stmt;
+mod subject;
 #[cfg(test)]
 mod tests;
 mod trace;
 mod value;
 
+pub use copy::{copy_expr, copy_stmts};
 pub use expr::{BinOp, Expr, UnOp};
 pub use func::{Func, Var};
 pub use name::Name;
 pub use place::{Place, Side};
+pub use settings::Settings;
 pub use stmt::Stmt;
+pub use subject::{Arity, Subject};
 pub use trace::{Event, Pair, Trace};
 pub use value::value_of;

@@ -1,5 +1,5 @@
 //! The names of a source text. Contracts see a name as its bytes.
-ghost use Rattle.std.specs.Prelude.{◌≡◌, IfOk, string_bytes};
+ghost use Rattle.std.specs.Prelude.{◌≡◌, ◌↔◌, IfOk, IsTrue, string_bytes};
 
 use std::alloc::{AllocError, Global};
 use std::marker::Model;
@@ -36,5 +36,12 @@ impl Name {
         ensures { IfOk result (λ name. name ≡ self.now) }
     {
         Ok(Name(self.0.clone()?))
+    }
+
+    /// Whether the names have the same text.
+    pub fn same(&self, other: &Name) -> bool
+        ensures { IsTrue result ↔ (self.now ≡ other.now) }
+    {
+        self.text() == other.text()
     }
 }

@@ -5,8 +5,8 @@ use Rattle.c_ast.proofs.Returning.{Returns-narrow_value}
 use Rattle.c_ast.proofs.func.Func.result.Goals as goal
 
 pub value_of-requires : goal.value_of-requires
-value_of-requires c = subst (λ (n : ℕ). VariablesBelow n (expression_of c.returned.result.now)) (sym c.requires) c.returned.ensures.returns.variables
+value_of-requires c = subst (λ (n : ℕ). VariablesBelow n (expression_of c.in-Some.expr.now)) (sym c.requires) c.in-Some.ensures.variables
 
-pub returns : goal.returns
-returns c =
-    Returns-narrow_value c.args.self.now c.returned.result.now c.args.inputs.now c.value_of.result c.returned.ensures.returns c.returned.ensures.value c.requires c.value_of.ensures.value
+pub returns-in-Some : goal.returns-in-Some
+returns-in-Some c =
+    Returns-narrow_value c.args.self.now c.in-Some.expr.now c.args.inputs.now c.value_of.result c.in-Some.ensures.returns c.in-Some.ensures.value c.requires c.value_of.ensures.value
