@@ -36,13 +36,15 @@ fn have_equal_forms(
     Ok(first_form.same(&second_form))
 }
 
-// Whether the two functions, which have as many parameters, return equal linear forms.
+// Whether both functions, which have as many parameters, are one `return`, and return equal linear forms.
 fn are_equivalent(alloc: Global, first: &Func, second: &Func) -> Result<bool, AllocError>
     requires { first.now.params ≡ second.now.params }
     ensures forms { IfOk result (λ same. IsTrue same ↔ HaveEqualForms first.now second.now) }
     ensures never_differ { IfOk result (λ same. IsTrue same → NeverDiffer first.now second.now) }
 {
-    let (left, right) = (first.returned(), second.returned());
+    let (Some(left), Some(right)) = (first.returned(), second.returned()) else {
+        return Ok(false);
+    };
     have_equal_forms(alloc, first.params() as usize, left, right)
 }
 

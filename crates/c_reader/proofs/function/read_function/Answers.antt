@@ -10,7 +10,7 @@ use Rattle.c_reader.proofs.function.read_function.Goals as goal
 pub new-requires : goal.new-requires
 new-requires c =
     let found = rw c.deref.ensures.value at c.in_ok-tree.ensures.found in
-    made _ _ _ _ c.in_ok-tree.tree.expr found.front (omega (arith, c.len-params.ensures, c.in_ok-vars.vars.ok.0))
+    made _ _ _ c.in_ok-tree.tree.expr found.front (omega (arith, c.len-params.ensures, c.in_ok-vars.vars.ok.0))
     c.in_ok-vars.ensures.found.few
     (c.in_ok-push.ensures.items ∙ ap (λ (l : List Stmt). l ++ Return c.in_ok-tree.tree.expr ∷ [])
     c.new-body.ensures.items) found.spells
