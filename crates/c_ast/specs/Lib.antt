@@ -8,3 +8,4 @@ pub mod Narrow
 pub mod Trace
 pub mod Segment
 pub mod Formed
+pub mod Laws

@@ -7,6 +7,7 @@
 
 mod expr;
 mod func;
+mod laws;
 mod name;
 mod place;
 mod stmt;
@@ -17,6 +18,7 @@ mod value;
 
 pub use expr::{BinOp, Expr, UnOp};
 pub use func::{Func, Var};
+pub use laws::{law_of_results, law_of_segments, law_of_traces};
 pub use name::Name;
 pub use place::{Place, Side};
 pub use stmt::Stmt;
