@@ -10,3 +10,4 @@ pub mod Segment
 pub mod Formed
 pub mod Bounds
 pub mod Comparison
+pub mod Laws

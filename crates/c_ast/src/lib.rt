@@ -8,6 +8,7 @@
 mod copy;
 mod expr;
 mod func;
+mod laws;
 mod name;
 mod place;
 mod same;
@@ -22,6 +23,7 @@ mod value;
 pub use copy::{copy_expr, copy_stmts};
 pub use expr::{BinOp, Expr, UnOp};
 pub use func::{Func, Var};
+pub use laws::{law_of_results, law_of_segments, law_of_traces};
 pub use name::Name;
 pub use place::{Place, Side};
 pub use settings::Settings;

@@ -1,0 +1,6 @@
+use Rattle.c_ast.proofs.Runs.{one_trace, trace_returns}
+use Rattle.c_ast.proofs.Places.{trace_fits}
+use Rattle.c_ast.proofs.laws.law_of_traces.Goals as goal
+
+pub returns : goal.returns
+returns c = record { one = one_trace; result = trace_returns; fits = trace_fits }
