@@ -1,13 +1,10 @@
-// A library with one function.
+//! What it means that a family couples two functions, and why a coupling shows that they never return differently.
+//!
+//! A coupling holds at the entries, is kept by every move of an alignment, and forces equal results at the exits
+//! (`specs/Coupling.antt`). Two runs that return are lists of segments, and at every node but the two exits some side has a
+//! segment to take. So the runs are followed to the exits, where the coupling speaks of both results.
 #![tactic(auto)]
 
-ghost use Rattle.std.specs.Prelude.{◌≡◌};
-ghost use Rattle.relation.specs.Echo.{echo_of};
+mod laws;
 
-// The `ensures` clause is the contract: what `echo` returns is `echo_of` of its argument, a definition
-// in `specs/Echo.antt`, which a caller's clause can cite too.
-pub fn echo(x: usize) -> usize
-    ensures { result ≡ echo_of x }
-{
-    x
-}
+pub use laws::{law_of_couplings, law_of_segments};

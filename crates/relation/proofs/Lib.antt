@@ -1,0 +1,5 @@
+pub mod Environments
+pub mod Nesting
+pub mod MarksAhead
+pub mod Stepping
+pub mod Splitting
