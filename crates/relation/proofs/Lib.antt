@@ -3,3 +3,6 @@ pub mod Nesting
 pub mod MarksAhead
 pub mod Stepping
 pub mod Splitting
+pub mod Moving
+pub mod Values
+pub mod Following

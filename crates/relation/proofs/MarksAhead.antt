@@ -1,7 +1,7 @@
 -- The marks that stand in the work that is left: a step keeps them, and those of a function's work are the function's.
-use Rattle.std.proofs.Common.{◌≡◌, ℕ, Bool, true, false, cond, ◌⊎◌, inl, inr, List, [], ◌∷◌, Option, Some, None, refl, subst}
-use Rattle.c_ast.specs.Tree.{Expression, Statements, Nil, Set, If, Loop, Break, Continue, Return, Mark, Block, Program}
-use Rattle.c_ast.specs.Step.{Scope, first_variables, LoopParts, Item, Run, Test, Cond, Tail, Work, past_tail, to_tail, entered, turned, start}
+use Rattle.std.proofs.Common.{◌≡◌, ℕ, Bool, true, false, cond, ◌⊎◌, inl, inr, [], ◌∷◌, Option, Some}
+use Rattle.c_ast.specs.Tree.{Expression, Statements, Set, If, Loop, Mark, Block, Program}
+use Rattle.c_ast.specs.Step.{Scope, LoopParts, Item, Run, Test, Cond, Tail, Work, past_tail, to_tail, entered, turned, start}
 use Rattle.c_ast.specs.Segment.{StandsIn, Follows}
 
 abbrev pub LoopHas : Scope → LoopParts → Work → ℕ → Work → Type 0

@@ -1,8 +1,8 @@
 -- Work whose scopes hold those of the work below, and whose expressions read variables in scope alone.
-use Rattle.std.proofs.Common.{◌≡◌, ℕ, Bool, true, false, List, [], ◌∷◌, pos, subst, sym, arith}
+use Rattle.std.proofs.Common.{ℕ, Bool, true, false, [], ◌∷◌, pos, subst, sym, arith}
 use Rattle.std.specs.Prelude.{◌≤ℤ◌}
 use Rattle.std.proofs.lemmas.Int.{ints}
-use Rattle.c_ast.specs.Tree.{Expression, Num, Statements, Nil, Set, If, Loop, Break, Continue, Return, Mark, Block}
+use Rattle.c_ast.specs.Tree.{Expression, Statements, Nil, Set, If, Loop, Break, Continue, Return, Mark, Block}
 use Rattle.c_ast.specs.Step.{Scope, is_in, LoopParts, Item, Run, Test, Cond, Tail, Work, item_scope, past_tail, to_tail}
 use Rattle.c_ast.specs.Formed.{IsOver, IsSet, AreFormed}
 use Rattle.relation.proofs.Environments.{Within, within_both}

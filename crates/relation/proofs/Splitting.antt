@@ -1,5 +1,5 @@
 -- A run that returns is a list of segments.
-use Rattle.std.proofs.Common.{◌≡◌, ℕ, zero, suc, List, [], ◌∷◌, length, Bool, false, Option, Some, None, ℤ, refl, sym, ap, ◌∙◌}
+use Rattle.std.proofs.Common.{◌≡◌, ℕ, zero, suc, List, [], ◌∷◌, length, false, Option, Some, None, ℤ, refl, sym, ap, ◌∙◌}
 use Rattle.c_ast.specs.declared.place.Place.{Place}
 use Rattle.c_ast.specs.declared.place.Place.TheVariants as place
 use Rattle.c_ast.specs.Tree.{Program}
@@ -54,7 +54,7 @@ module _ (f : Program) where
       } in
       let out = goes (suc marks) w1 scope a1 next ready ran in
       let long : length values ≡ length (values_in scope (spread [] f.vars [])) =
-          length-values_from scope 0 b1 (spread [] f.vars []) (alike.2.agree.right ∙ sym (length-spread_from [] 0 f.vars [])) in
+      length-values_from scope 0 b1 (spread [] f.vars []) (alike.2.agree.right ∙ sym (length-spread_from [] 0 f.vars [])) in
       let segment : IsSegment f (place.Mark j) values out.place_met out.values_there = record { work = w1; from = alike.3; steps = out.steps; met = out.met } in
       record {
         place_met = place.Mark j;
@@ -90,7 +90,7 @@ module _ (f : Program) where
   splits zero marks work scope a b result ready ran = cc
   splits (suc n) marks work scope a b result ready ran =
       after_step n marks result (step work a) (step work b) ran (step_alike f work scope a b ready)
-        (λ marks' work' scope' a' b' ready' ran'. splits n marks' work' scope' a' b' result ready' ran') work b refl
+      (λ marks' work' scope' a' b' ready' ran'. splits n marks' work' scope' a' b' result ready' ran') work b refl
 
   pub returns_leads_out : (inputs : List ℤ) (result : ℤ) → IsProgram f → length inputs ≡ f.params → Returns f inputs result
       → (n : ℕ) × LeadsOut f place.Entry inputs n result

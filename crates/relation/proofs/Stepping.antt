@@ -1,8 +1,8 @@
 -- One step from two environments that agree on the variables in scope does the same in both.
-use Rattle.std.proofs.Common.{◌≡◌, ℕ, Bool, true, false, cond, ◌⊎◌, inl, inr, List, [], ◌∷◌, Option, Some, None, ℤ, refl, ap}
+use Rattle.std.proofs.Common.{◌≡◌, ℕ, Bool, true, false, cond, inl, List, [], ◌∷◌, Option, Some, None, ℤ, refl, ap}
 use Rattle.c_ast.specs.Tree.{Expression, Statements, Nil, Set, If, Loop, Break, Continue, Return, Mark, Block, Program}
 use Rattle.c_ast.specs.Value.{eval, is_nonzero}
-use Rattle.c_ast.specs.Step.{Scope, LoopParts, Run, Test, Cond, Tail, Work, scope_of, Next, Goes, Passes, Ends, past_tail, to_tail, tested, entered, turned, step}
+use Rattle.c_ast.specs.Step.{Scope, LoopParts, Run, Test, Cond, Tail, Work, scope_of, Next, Goes, Passes, Ends, tested, entered, turned, step}
 use Rattle.c_ast.specs.Segment.{Follows}
 use Rattle.relation.proofs.Environments.{Agree, within_itself, within_more, agree_within, eval_agree, agree_set}
 use Rattle.relation.proofs.Nesting.{Nested, nested_within, nested-past_tail, nested-to_tail}
@@ -88,8 +88,8 @@ module _ (f : Program) where
   step_alike (Run scope (If e x y others) ∷ work) outer a b is =
       let agree = agree_within f.vars scope outer a b is.nested.0 is.agree in
       branch_alike (λ t. Run scope (cond t x y) ∷ Run scope others ∷ work) scope (Run scope (If e x y others) ∷ work) a b (eval e a) (eval e b)
-        (eval_agree e f.vars scope a b agree is.nested.1.0) agree is.ahead (nested_branch scope e x y others work outer is.nested)
-        (λ t. keeps_branch t scope e x y others work)
+      (eval_agree e f.vars scope a b agree is.nested.1.0) agree is.ahead (nested_branch scope e x y others work outer is.nested)
+      (λ t. keeps_branch t scope e x y others work)
   step_alike (Run scope (Loop own e body tail first others) ∷ work) outer a b is = (
     refl,
     scope,
@@ -146,8 +146,8 @@ module _ (f : Program) where
   step_alike (Cond scope loop ∷ work) outer a b is =
       let agree = agree_within f.vars scope outer a b is.nested.0 is.agree in
       branch_alike (λ t. turned t scope loop work) scope (Cond scope loop ∷ work) a b (eval loop.cond a) (eval loop.cond b)
-        (eval_agree loop.cond f.vars scope a b agree is.nested.1.0) agree is.ahead (nested-turned scope loop work outer is.nested)
-        (λ t. keeps-turned t scope loop work)
+      (eval_agree loop.cond f.vars scope a b agree is.nested.1.0) agree is.ahead (nested-turned scope loop work outer is.nested)
+      (λ t. keeps-turned t scope loop work)
   step_alike (Tail scope loop ∷ work) outer a b is = (
     refl,
     scope,
