@@ -1,0 +1,3 @@
+pub mod Atom
+pub mod Node
+pub mod Family

@@ -1,0 +1,1 @@
+//! Atoms judged by hand.
