@@ -9,3 +9,5 @@ pub mod Trace
 pub mod Segment
 pub mod Formed
 pub mod Laws
+pub mod Shown
+pub mod Within

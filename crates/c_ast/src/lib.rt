@@ -7,6 +7,7 @@
 
 mod expr;
 mod func;
+mod interpret;
 mod laws;
 mod name;
 mod place;
