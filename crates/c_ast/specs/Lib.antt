@@ -11,3 +11,4 @@ pub mod Formed
 pub mod Laws
 pub mod Shown
 pub mod Within
+pub mod Scope

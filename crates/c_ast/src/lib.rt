@@ -11,6 +11,7 @@ mod interpret;
 mod laws;
 mod name;
 mod place;
+mod scope;
 mod stmt;
 #[cfg(test)]
 mod tests;
