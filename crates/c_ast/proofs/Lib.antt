@@ -6,3 +6,5 @@ pub mod Runs
 pub mod Following
 pub mod NextPlace
 pub mod Places
+pub mod Fronts
+pub mod Steps

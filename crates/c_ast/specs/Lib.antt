@@ -11,3 +11,6 @@ pub mod Formed
 pub mod Bounds
 pub mod Comparison
 pub mod Laws
+pub mod Shown
+pub mod Within
+pub mod Scope

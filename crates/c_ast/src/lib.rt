@@ -8,10 +8,12 @@
 mod copy;
 mod expr;
 mod func;
+mod interpret;
 mod laws;
 mod name;
 mod place;
 mod same;
+mod scope;
 mod settings;
 mod stmt;
 mod subject;

@@ -25,7 +25,7 @@ fn test_value(test: bool) -> i128
     if test { 1 } else { 0 }
 }
 
-fn is_nonzero(value: i128) -> bool
+pub(crate) fn is_nonzero(value: i128) -> bool
     ensures { result ≡ is_nonzero value }
 {
     value != 0

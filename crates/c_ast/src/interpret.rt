@@ -1,0 +1,223 @@
+//! A plain interpreter over the tree.
+ghost use Rattle.std.specs.Prelude.{◌≡◌, [], ◌∷◌, if◌then◌else◌, length, OnOk, IfOk};
+ghost use Rattle.c_ast.specs.View.{statements_of};
+ghost use Rattle.c_ast.specs.Value.{is_nonzero};
+ghost use Rattle.c_ast.specs.Step.{Run, Tail, entered, to_tail};
+ghost use Rattle.c_ast.specs.Shown.{loop_of, item_of, work_of, TakesStep, IsTested, Cuts};
+ghost use Rattle.c_ast.specs.Within.{AreWithin, IsWorkWithin};
+
+use crate::value::is_nonzero;
+use crate::{Expr, Stmt, value_of};
+use sqlite_items::Items;
+use std::alloc::AllocError;
+use std::collections::VecDeque;
+
+/// The parts of a loop that a turn uses.
+#[derive(Clone, Copy)]
+struct Parts<'a> {
+    mark: Option<u32>,
+    cond: &'a Expr,
+    body: &'a [Stmt],
+    step: &'a [Stmt],
+}
+
+/// What is left to do: the rest of a list of statements, or a loop's mark and condition, its condition alone, or what
+/// follows its body.
+#[derive(Clone, Copy)]
+enum Item<'a> {
+    Run(&'a [Stmt]),
+    Test(Parts<'a>),
+    Cond(Parts<'a>),
+    Tail(Parts<'a>),
+}
+
+/// What a step comes to: the run goes on, passes a mark, or ends with a result, or a wide value was met.
+enum Next {
+    Goes,
+    Passes(u32),
+    Ends(i128),
+    Wide,
+}
+
+/// Puts an item in front of the work.
+fn put<'a>(work: &mut VecDeque<Item<'a>>, item: Item<'a>) -> Result<(), AllocError>
+    ensures { OnOk result (work_of work.new.items ≡ item_of item.entry ∷ work_of work.old.items) }
+{
+    work.push_front(item)?;
+    Ok(())
+}
+
+/// Cuts the work through its first tail.
+fn cut<'a>(work: &mut VecDeque<Item<'a>>) -> Option<Parts<'a>>
+    ensures { Cuts (work_of work.old.items) result (work_of work.new.items) }
+{
+    while let Some(item) = work.pop_front() {
+        if let Item::Tail(parts) = item {
+            return Some(parts);
+        }
+    }
+    None
+}
+
+/// A turn of a loop: its body, and then what follows it.
+fn turn<'a>(work: &mut VecDeque<Item<'a>>, parts: Parts<'a>) -> Result<(), AllocError>
+    ensures { OnOk result (work_of work.new.items
+        ≡ Run [] (statements_of parts.entry.body.now) ∷ Tail [] (loop_of parts.entry) ∷ work_of work.old.items) }
+{
+    put(work, Item::Tail(parts))?;
+    put(work, Item::Run(parts.body))?;
+    Ok(())
+}
+
+/// A loop is entered at its test, or at its body.
+fn enter<'a>(work: &mut VecDeque<Item<'a>>, parts: Parts<'a>, test_first: bool) -> Result<(), AllocError>
+    ensures { OnOk result (work_of work.new.items ≡ entered test_first [] (loop_of parts.entry) (work_of work.old.items)) }
+{
+    if test_first {
+        put(work, Item::Test(parts))?;
+    } else {
+        turn(work, parts)?;
+    }
+    Ok(())
+}
+
+/// Goes on where a `continue` leads (6.8.6.2).
+fn go_on<'a>(work: &mut VecDeque<Item<'a>>) -> Result<(), AllocError>
+    ensures { OnOk result (work_of work.new.items ≡ to_tail (work_of work.old.items)) }
+{
+    if let Some(parts) = cut(work) {
+        put(work, Item::Tail(parts))?;
+    }
+    Ok(())
+}
+
+/// What the test of a loop with this mark, or without one, comes to.
+fn tested(mark: Option<u32>) -> Next
+    ensures { IsTested mark result }
+{
+    match mark {
+        Some(mark) => Next::Passes(mark),
+        None => Next::Goes,
+    }
+}
+
+/// The branch of an `if` that its condition's value chooses (6.8.4.1).
+fn branch<'a>(value: i128, a: &'a Items<Stmt>, b: &'a Items<Stmt>) -> &'a [Stmt]
+    ensures { statements_of result.now ≡ (if is_nonzero value then statements_of a.now else statements_of b.now) }
+{
+    if is_nonzero(value) {
+        a.as_slice()
+    } else {
+        b.as_slice()
+    }
+}
+
+/// A step at the front of a list of statements.
+fn run_first<'a>(
+    work: &mut VecDeque<Item<'a>>,
+    stmts: &'a [Stmt],
+    environment: &mut [i128],
+) -> Result<Next, AllocError>
+    requires { AreWithin (length environment.old) (statements_of stmts.now) }
+    ensures { IfOk result (λ next. TakesStep
+        (Run [] (statements_of stmts.now) ∷ work_of work.old.items) environment.old
+        next (work_of work.new.items) environment.new) }
+{
+    let [first, others @ ..] = stmts else {
+        return Ok(Next::Goes);
+    };
+    match first {
+        Stmt::Set(x, e) => {
+            let Some(value) = value_of(e, environment) else {
+                return Ok(Next::Wide);
+            };
+            environment[*x as usize] = value;
+            put(work, Item::Run(others))?;
+            Ok(Next::Goes)
+        }
+        Stmt::If(e, a, b) => {
+            let Some(value) = value_of(e, environment) else {
+                return Ok(Next::Wide);
+            };
+            put(work, Item::Run(others))?;
+            put(work, Item::Run(branch(value, a, b)))?;
+            Ok(Next::Goes)
+        }
+        Stmt::Loop {
+            mark,
+            cond,
+            body,
+            step,
+            test_first,
+        } => {
+            let parts = Parts {
+                mark: *mark,
+                cond,
+                body: body.as_slice(),
+                step: step.as_slice(),
+            };
+            put(work, Item::Run(others))?;
+            enter(work, parts, *test_first)?;
+            Ok(Next::Goes)
+        }
+        Stmt::Break => {
+            let _ = cut(work);
+            Ok(Next::Goes)
+        }
+        Stmt::Continue => {
+            go_on(work)?;
+            Ok(Next::Goes)
+        }
+        Stmt::Return(e) => match value_of(e, environment) {
+            Some(value) => Ok(Next::Ends(value)),
+            None => Ok(Next::Wide),
+        },
+        Stmt::Mark(mark) => {
+            put(work, Item::Run(others))?;
+            Ok(Next::Passes(*mark))
+        }
+        Stmt::Block(a) => {
+            put(work, Item::Run(others))?;
+            put(work, Item::Run(a.as_slice()))?;
+            Ok(Next::Goes)
+        }
+    }
+}
+
+/// A step of a run.
+fn step<'a>(
+    work: &mut VecDeque<Item<'a>>,
+    environment: &mut [i128],
+) -> Result<Next, AllocError>
+    requires { IsWorkWithin (length environment.old) (work_of work.old.items) }
+    ensures { IfOk result (λ next. TakesStep
+        (work_of work.old.items) environment.old next (work_of work.new.items) environment.new) }
+{
+    let Some(item) = work.pop_front() else {
+        return Ok(Next::Ends(0));
+    };
+    match item {
+        Item::Run(stmts) => {
+            let next = run_first(work, stmts, environment)?;
+            Ok(next)
+        }
+        Item::Test(parts) => {
+            put(work, Item::Cond(parts))?;
+            Ok(tested(parts.mark))
+        }
+        Item::Cond(parts) => {
+            let Some(value) = value_of(parts.cond, environment) else {
+                return Ok(Next::Wide);
+            };
+            if is_nonzero(value) {
+                turn(work, parts)?;
+            }
+            Ok(Next::Goes)
+        }
+        Item::Tail(parts) => {
+            put(work, Item::Test(parts))?;
+            put(work, Item::Run(parts.step))?;
+            Ok(Next::Goes)
+        }
+    }
+}
