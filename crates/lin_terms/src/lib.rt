@@ -4,10 +4,13 @@
 //! value is, and which form a sum or a multiple is, stands in `specs/Form.antt`, over integers of any size.
 #![tactic(auto)]
 
+mod divisor;
 mod fault;
 mod form;
+mod row;
 #[cfg(test)]
 mod tests;
 
 pub use fault::FormFault;
 pub use form::{Form, add, constant_form, scale, variable_form};
+pub use row::{Row, tight};
