@@ -1,6 +1,6 @@
 -- Rows that multipliers refute have no point.
 use Rattle.std.proofs.Common.{◌≡◌, ℕ, zero, suc, Bool, true, false, List, [], ◌∷◌, arith, refl, sym, ◌∙◌, ap, subst, get_or}
-use Rattle.std.specs.Prelude.{ℤ, pos, negsuc, ◌+ℤ◌, ◌*ℤ◌, ◌≤ℤ◌, ◌<ℤ◌, All}
+use Rattle.std.specs.Prelude.{ℤ, pos, negsuc, ◌+ℤ◌, ◌*ℤ◌, ◌≤ℤ◌, ◌<ℤ◌}
 use Rattle.std.specs.Bool.{OnFalse}
 use Rattle.std.specs.List.{AllZip, AllByRecursion}
 use Rattle.std.proofs.lemmas.Int.{ints}
@@ -81,7 +81,7 @@ pub no_point : (rows : List Row) (ms : List ℤ) → Refutes rows ms → HasNoPo
 no_point rows ms refuted numbers d positive met =
     let zeros = dot-zeros (combination ms rows) numbers (λ j. get_or-combination ms rows j ∙ refuted.no_variable j) in
     let e = total-is ms rows numbers d ∙ ap (λ t. t +ℤ (dot ms (constants rows) *ℤ d)) zeros in
-    clash (dot ms (constants rows)) d refuted.negative positive
+    clash (dot ms (constants rows)) d refuted.negative_constant positive
     (subst (λ z. pos 0 ≤ℤ z) e (nonneg_total ms rows numbers d refuted.signs (recursion_from_All (Meets numbers d) rows met)))
 
 over_one : (c : ℤ) → c *ℤ pos 1 ≡ c

@@ -1,9 +1,9 @@
-//! The check: signs first, then the constant, then the columns.
-ghost use Rattle.std.specs.Prelude.{◌≡◌, ℕ, ◌↔◌, ◌≤◌, ◌≤ℤ◌, pos, negsuc, All, IsTrue, length};
+//! The check: the signs of the multipliers, then the constant of the sum, then its columns.
+ghost use Rattle.std.specs.Prelude.{◌≡◌, ℕ, ◌↔◌, ◌≤ℤ◌, pos, negsuc, All, IsTrue, length};
 ghost use Rattle.std.specs.List.{AllZip};
-ghost use Rattle.lin_terms.specs.Row.{IsNarrow, IsNarrowRow, columns_of, HaveOneLength, HasNoPoint, HasNoIntegerPoint};
+ghost use Rattle.lin_terms.specs.Row.{columns_of, HasNoPoint, HasNoIntegerPoint};
 ghost use Rattle.lin_terms.specs.Vectors.{dot};
-ghost use Rattle.farkas_check.specs.Refutes.{column, constants, MayMultiply, Refutes};
+ghost use Rattle.farkas_check.specs.Refutes.{column, constants, MayMultiply, Refutes, IsCheckable};
 
 use crate::sums::{WIDTH, column_sums, constant_sum};
 use lin_terms::Row;
@@ -26,6 +26,20 @@ fn all_may_multiply(rows: &[Row], multipliers: &[i128]) -> bool
     true
 }
 
+fn leave_negative_constant(rows: &[Row], multipliers: &[i128]) -> bool
+    requires { IsCheckable rows.now multipliers.now }
+    ensures { IsTrue result ↔ (dot multipliers.now (constants rows.now) ≤ℤ negsuc 0) }
+{
+    constant_sum(rows, multipliers) < 0
+}
+
+fn are_zeros(sums: &[i128]) -> bool
+    ensures { IsTrue result ↔ All (λ sum. sum ≡ pos 0) sums.now }
+{
+    sums.iter().all(|sum| *sum == 0)
+}
+
+/// The number of columns of rows of one length.
 pub fn columns_of(rows: &[Row]) -> usize
     ensures { result ≡ columns_of rows.now }
 {
@@ -35,63 +49,36 @@ pub fn columns_of(rows: &[Row]) -> usize
     }
 }
 
-fn are_zeros(sums: &[i128]) -> bool
-    ensures { IsTrue result ↔ All (λ sum. sum ≡ pos 0) sums.now }
-{
-    sums.iter().all(|sum| *sum == 0)
-}
-
 fn leave_no_variable(rows: &[Row], multipliers: &[i128]) -> bool
-    requires many { length rows.now ≤ 4096 }
-    requires one_length { HaveOneLength rows.now }
-    requires as_many { length multipliers.now ≡ length rows.now }
-    requires narrow_rows { All IsNarrowRow rows.now }
-    requires narrow_multipliers { All IsNarrow multipliers.now }
+    requires { IsCheckable rows.now multipliers.now }
     ensures { IsTrue result ↔ ((j : ℕ) → dot multipliers.now (column j rows.now) ≡ pos 0) }
 {
     for block in 0..columns_of(rows).div_ceil(WIDTH) {
-        if !are_zeros(&column_sums(block * WIDTH, rows, multipliers)) {
+        if !are_zeros(&column_sums(rows, multipliers, block * WIDTH)) {
             return false;
         }
     }
     true
 }
 
-fn leave_negative_constant(rows: &[Row], multipliers: &[i128]) -> bool
-    requires many { length rows.now ≤ 4096 }
-    requires as_many { length multipliers.now ≡ length rows.now }
-    requires narrow_rows { All IsNarrowRow rows.now }
-    requires narrow_multipliers { All IsNarrow multipliers.now }
-    ensures { IsTrue result ↔ (dot multipliers.now (constants rows.now) ≤ℤ negsuc 0) }
-{
-    constant_sum(rows, multipliers) < 0
-}
+/// Whether the rows, each times its multiplier, add up to a row without variables whose constant is at most -1, and no
+/// multiplier is negative except at an equality (Farkas' lemma). An empty list of rows is not refuted.
+///
+/// It is asked of at most 4,096 rows of one length, a multiplier for each, with all entries and multipliers below 2^56
+/// in size. It takes no memory.
+///
+/// Example: no point meets `3x - 2y - 1 >= 0`, `-3x - y + 2 >= 0`, `y >= 0` and `x - 1 >= 0`. The multipliers are
+/// 0, 1, 1 and 3: `(-3x - y + 2) + y + 3(x - 1)` is -1. With 0, 1, 1 and 2 in their place the variable x is left, with
+/// 0, 1, 0 and 1 x and y are, and 0, 0, 0 and 0 give the constant 0.
+pub fn refutes(rows: &[Row], multipliers: &[i128]) -> bool
+    requires { IsCheckable rows.now multipliers.now }
+    ensures exact { IsTrue result ↔ Refutes rows.now multipliers.now }
 
-fn is_refuted(rows: &[Row], multipliers: &[i128]) -> bool
-    requires many { length rows.now ≤ 4096 }
-    requires one_length { HaveOneLength rows.now }
-    requires as_many { length multipliers.now ≡ length rows.now }
-    requires narrow_rows { All IsNarrowRow rows.now }
-    requires narrow_multipliers { All IsNarrow multipliers.now }
-    ensures { IsTrue result ↔ Refutes rows.now multipliers.now }
+    // Where it says yes, there is no point, be it of whole numbers or of fractions.
+    ensures no_integer_point { IsTrue result → HasNoIntegerPoint rows.now }
+    ensures no_point { IsTrue result → HasNoPoint rows.now }
 {
     all_may_multiply(rows, multipliers)
         && leave_negative_constant(rows, multipliers)
         && leave_no_variable(rows, multipliers)
-}
-
-/// Whether the multipliers refute the rows.
-pub fn refutes(rows: &[Row], multipliers: &[i128]) -> bool
-    requires many { length rows.now ≤ 4096 }
-    requires one_length { HaveOneLength rows.now }
-    requires as_many { length multipliers.now ≡ length rows.now }
-    requires narrow_rows { All IsNarrowRow rows.now }
-    requires narrow_multipliers { All IsNarrow multipliers.now }
-    ensures exact { IsTrue result ↔ Refutes rows.now multipliers.now }
-
-    // Where it says yes, there is no point, over whole numbers and over fractions.
-    ensures no_integer_point { IsTrue result → HasNoIntegerPoint rows.now }
-    ensures no_point { IsTrue result → HasNoPoint rows.now }
-{
-    is_refuted(rows, multipliers)
 }

@@ -1,17 +1,19 @@
-//! Sums of entries times multipliers, in 128 bits: 4,096 products of numbers below 2^56 add up to less than 2^124.
-ghost use Rattle.std.specs.Prelude.{◌≡◌, ℕ, ◌+◌, ◌*◌, ◌<◌, ◌≤◌, ◌^◌, ◌+ℤ◌, ◌*ℤ◌, pos, unsigned_abs, All, length, slice_index_or, take, drop};
-ghost use Rattle.lin_terms.specs.Row.{IsNarrow, IsNarrowRow};
+//! Sums of entries times multipliers, in 128 bits. At most 4,096 products, each below 2^112 in size, are added.
+//!
+//! The columns are added up in blocks, so that rows of at most `WIDTH` columns are walked once.
+ghost use Rattle.std.specs.Prelude.{◌≡◌, ℕ, ◌+◌, ◌<◌, ◌≤◌, ◌^◌, ◌+ℤ◌, ◌*ℤ◌, pos, unsigned_abs, All, length, slice_index_or, take, drop};
+ghost use Rattle.lin_terms.specs.Row.{IsNarrow};
 ghost use Rattle.lin_terms.specs.Vectors.{dot};
-ghost use Rattle.farkas_check.specs.Refutes.{column, constants};
+ghost use Rattle.farkas_check.specs.Refutes.{column, constants, IsCheckable};
 
 use lin_terms::Row;
 
-/// How many columns are added up in one pass over the rows.
+/// How many columns are added up in one walk over the rows.
 pub const WIDTH: usize = 32;
 
 fn product(multiplier: &i128, entry: &i64) -> i128
-    requires left { IsNarrow multiplier.now }
-    requires right { IsNarrow entry.now }
+    requires narrow_multiplier { IsNarrow multiplier.now }
+    requires narrow { IsNarrow entry.now }
     ensures value { result ≡ multiplier.now *ℤ entry.now }
     ensures small { unsigned_abs result < 2 ^ 112 }
 {
@@ -20,10 +22,7 @@ fn product(multiplier: &i128, entry: &i64) -> i128
 
 /// The sum of the constants, each times its row's multiplier.
 pub fn constant_sum(rows: &[Row], multipliers: &[i128]) -> i128
-    requires many { length rows.now ≤ 4096 }
-    requires as_many { length multipliers.now ≡ length rows.now }
-    requires narrow_rows { All IsNarrowRow rows.now }
-    requires narrow_multipliers { All IsNarrow multipliers.now }
+    requires { IsCheckable rows.now multipliers.now }
     ensures { result ≡ dot multipliers.now (constants rows.now) }
 {
     let mut sum = 0i128;
@@ -33,11 +32,11 @@ pub fn constant_sum(rows: &[Row], multipliers: &[i128]) -> i128
     sum
 }
 
-/// Adds the entries times the multiplier to the first of the sums.
+/// Adds the entries, each times the multiplier, to the sums that stand at their places.
 fn add_entries(sums: &mut [i128], multiplier: &i128, entries: &[i64])
     requires lengths { length entries.now ≤ length sums.old }
-    requires narrow { All IsNarrow entries.now }
     requires narrow_multiplier { IsNarrow multiplier.now }
+    requires narrow { All IsNarrow entries.now }
     requires room { All (λ sum. unsigned_abs sum < 2 ^ 126) sums.old }
     ensures { (k : ℕ) → slice_index_or sums.new k (pos 0) ≡ slice_index_or sums.old k (pos 0) +ℤ (multiplier.now *ℤ slice_index_or entries.now k (pos 0)) }
 {
@@ -49,8 +48,8 @@ fn add_entries(sums: &mut [i128], multiplier: &i128, entries: &[i64])
     }
 }
 
-/// The row's entries at `first` and after it, at most `WIDTH` of them.
-fn entries_from(row: &Row, first: usize) -> &[i64]
+/// The row's coefficients in the columns `first`, `first + 1` and so on, at most `WIDTH` of them.
+fn block(row: &Row, first: usize) -> &[i64]
     ensures { result.now ≡ take WIDTH (drop first row.now.coefs) }
 {
     let coefs = row.coefs.as_slice();
@@ -58,17 +57,14 @@ fn entries_from(row: &Row, first: usize) -> &[i64]
     &entries[..WIDTH.min(entries.len())]
 }
 
-/// The sums of the columns `first` and after it, at most `WIDTH` of them, each entry times its row's multiplier.
-pub fn column_sums(first: usize, rows: &[Row], multipliers: &[i128]) -> [i128; WIDTH]
-    requires many { length rows.now ≤ 4096 }
-    requires as_many { length multipliers.now ≡ length rows.now }
-    requires narrow_rows { All IsNarrowRow rows.now }
-    requires narrow_multipliers { All IsNarrow multipliers.now }
+/// The sums of the columns `first`, `first + 1` and so on, each coefficient times its row's multiplier.
+pub fn column_sums(rows: &[Row], multipliers: &[i128], first: usize) -> [i128; WIDTH]
+    requires { IsCheckable rows.now multipliers.now }
     ensures { (k : ℕ) → k < WIDTH → slice_index_or result k (pos 0) ≡ dot multipliers.now (column (first + k) rows.now) }
 {
     let mut sums = [0i128; WIDTH];
     for (i, row) in rows.iter().enumerate() {
-        add_entries(&mut sums, &multipliers[i], entries_from(row, first));
+        add_entries(&mut sums, &multipliers[i], block(row, first));
     }
     sums
 }

@@ -1,6 +1,7 @@
 //! Rows and multipliers that were worked out by hand.
 ghost use Rattle.std.specs.Prelude.{◌≡◌, ◌↔◌, All, IsTrue};
 ghost use Rattle.lin_terms.specs.Row.{IsNarrow, IsNarrowRow, HaveOneLength};
+ghost use Rattle.farkas_check.specs.Refutes.{IsCheckable};
 
 use crate::multipliers::columns_of;
 use crate::refutes;
@@ -55,17 +56,35 @@ fn have_one_length(rows: &[Row]) -> bool
     rows.iter().all(|row| row.coefs.len() == columns)
 }
 
+/// Coefficients, constant and whether it is an equality, for each row.
+fn rows_of(alloc: Global, given: &[(&[i64], i64, bool)]) -> Result<Vec<Row>, AllocError> {
+    let mut made = Vec::new(alloc);
+    for (coefs, constant, equality) in given {
+        made.push(row(alloc, coefs, *constant, *equality)?)?;
+    }
+    Ok(made)
+}
+
+fn is_checkable(rows: &[Row], multipliers: &[i128]) -> bool
+    ensures { IsTrue result ↔ IsCheckable rows.now multipliers.now }
+{
+    rows.len() <= 4096
+        && have_one_length(rows)
+        && multipliers.len() == rows.len()
+        && are_narrow_rows(rows)
+        && are_narrow(multipliers)
+}
+
 /// What `refutes` answers, where it may be asked.
 fn answer(rt: &impl Abort, rows: &[Row], multipliers: &[i128]) -> bool {
-    assert!(rt; rows.len() <= 4096 && multipliers.len() == rows.len());
-    assert!(rt; have_one_length(rows) && are_narrow_rows(rows) && are_narrow(multipliers));
+    assert!(rt; is_checkable(rows, multipliers));
     refutes(rows, multipliers)
 }
 
 #[test]
 fn small_rows(rt: HostRuntime) -> Result<(), Fail> {
     let alloc = rt.alloc();
-    // Coefficients, the constant and whether it is an equality; the multipliers; whether they refute the rows.
+    // Rows, their multipliers, and whether these refute them.
     let rows: [(&[(&[i64], i64, bool)], &[i128], bool); 22] = [
         (&[], &[], false),
         // x - 1 >= 0 and -x >= 0
@@ -125,10 +144,7 @@ fn small_rows(rt: HostRuntime) -> Result<(), Fail> {
         ),
     ];
     for (given, multipliers, want) in rows {
-        let mut made = Vec::new(alloc);
-        for (coefs, constant, equality) in given {
-            made.push(row(alloc, coefs, *constant, *equality)?)?;
-        }
+        let made = rows_of(alloc, given)?;
         let got = answer(&rt, made.as_slice(), multipliers);
         assert_eq!(rt; got, want, "{made:?} with {multipliers:?}");
     }

@@ -1,5 +1,5 @@
 -- A tight row has the solutions in whole numbers of the row that it is made of.
-use Rattle.std.proofs.Common.{◌≡◌, ◌↔◌, ℕ, zero, suc, ◌+◌, ◌*◌, ◌<◌, ◌≤◌, ◌%◌, Bool, true, false, cond, not, eqb, List, [], ◌∷◌, map, arith, refl, sym, ◌∙◌, ap, subst, length}
+use Rattle.std.proofs.Common.{◌≡◌, ◌↔◌, ℕ, zero, suc, ◌<◌, ◌%◌, Bool, true, false, cond, not, eqb, List, map, arith, refl, sym, ◌∙◌, ap, subst, length}
 use Prim.Native.Nat.{◌∣◌}
 use Rattle.std.specs.Prelude.{ℤ, pos, negsuc, ◌+ℤ◌, ◌*ℤ◌, ◌≤ℤ◌, ◌&&◌, unsigned_abs}
 use Rattle.std.proofs.Math.Nat.{dvd-mul_right}

@@ -64,11 +64,7 @@ fn copy(alloc: Global, row: &Row) -> Result<Row, AllocError>
     ensures { IfOk result (λ made. made ≡ row.now) }
 {
     let coefs = Items::from_slice(alloc, row.coefs.as_slice())?;
-    Ok(Row {
-        coefs,
-        constant: row.constant,
-        equality: row.equality,
-    })
+    Ok(Row { coefs, ..*row })
 }
 
 fn made_tight(alloc: Global, row: &Row) -> Result<Row, AllocError>
