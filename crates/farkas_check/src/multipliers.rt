@@ -67,9 +67,9 @@ fn leave_no_variable(rows: &[Row], multipliers: &[i128]) -> bool
 /// It is asked of at most 4,096 rows of one length, a multiplier for each, with all entries and multipliers below 2^56
 /// in size. It takes no memory.
 ///
-/// Example: no point meets `3x - 2y - 1 >= 0`, `-3x - y + 2 >= 0`, `y >= 0` and `x - 1 >= 0`. The multipliers are
-/// 0, 1, 1 and 3: `(-3x - y + 2) + y + 3(x - 1)` is -1. With 0, 1, 1 and 2 in their place the variable x is left, with
-/// 0, 1, 0 and 1 x and y are, and 0, 0, 0 and 0 give the constant 0.
+/// Example: no point meets `3x - 2y - 1 >= 0`, `-3x - y + 2 >= 0`, `y >= 0` and `x - 1 >= 0`, since the multipliers
+/// 0, 1, 1 and 3 refute these rows: `(-3x - y + 2) + y + 3(x - 1)` is -1, and -1 is not at least 0. The multipliers
+/// 0, 1, 1 and 2 do not, since their sum `-x` has the variable x; nor do 0, 0, 0 and 0, since 0 is at least 0.
 pub fn refutes(rows: &[Row], multipliers: &[i128]) -> bool
     requires { IsCheckable rows.now multipliers.now }
     ensures exact { IsTrue result ↔ Refutes rows.now multipliers.now }

@@ -38,7 +38,8 @@ fn add_entries(sums: &mut [i128], multiplier: &i128, entries: &[i64])
     requires narrow_multiplier { IsNarrow multiplier.now }
     requires narrow { All IsNarrow entries.now }
     requires room { All (λ sum. unsigned_abs sum < 2 ^ 126) sums.old }
-    ensures { (k : ℕ) → slice_index_or sums.new k (pos 0) ≡ slice_index_or sums.old k (pos 0) +ℤ (multiplier.now *ℤ slice_index_or entries.now k (pos 0)) }
+    ensures { (k : ℕ) → slice_index_or sums.new k (pos 0)
+        ≡ slice_index_or sums.old k (pos 0) +ℤ (multiplier.now *ℤ slice_index_or entries.now k (pos 0)) }
 {
     if *multiplier == 0 {
         return;
@@ -60,7 +61,8 @@ fn block(row: &Row, first: usize) -> &[i64]
 /// The sums of the columns `first`, `first + 1` and so on, each coefficient times its row's multiplier.
 pub fn column_sums(rows: &[Row], multipliers: &[i128], first: usize) -> [i128; WIDTH]
     requires { IsCheckable rows.now multipliers.now }
-    ensures { (k : ℕ) → k < WIDTH → slice_index_or result k (pos 0) ≡ dot multipliers.now (column (first + k) rows.now) }
+    ensures { (k : ℕ) → k < WIDTH → slice_index_or result k (pos 0)
+        ≡ dot multipliers.now (column (first + k) rows.now) }
 {
     let mut sums = [0i128; WIDTH];
     for (i, row) in rows.iter().enumerate() {

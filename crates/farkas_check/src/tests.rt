@@ -94,7 +94,7 @@ fn small_rows(rt: HostRuntime) -> Result<(), Fail> {
         (&[(&[1], -1, false), (&[-1], 0, false)], &[0, 0], false),
         // x >= 0 and -x >= 0, which 0 meets
         (&[(&[1], 0, false), (&[-1], 0, false)], &[1, 1], false),
-        // x + 1 >= 0 and -x - 1 >= 0 with a negative multiplier, and what an equality makes of it
+        // x + 1 and x with -1 and 1: the first has to be an equality
         (&[(&[1], 1, false), (&[1], 0, false)], &[-1, 1], false),
         (&[(&[1], 1, true), (&[1], 0, false)], &[-1, 1], true),
         (&[(&[1], 1, false), (&[1], 0, true)], &[-1, 1], false),
@@ -114,7 +114,7 @@ fn small_rows(rt: HostRuntime) -> Result<(), Fail> {
             &[-2, 1],
             true,
         ),
-        // 3x - 2y >= 1, 2 >= 3x + y, y >= 0, with 0 >= x, then with x >= 1
+        // 3x - 2y >= 1, 3x + y <= 2 and y >= 0, with x <= 0, then with x >= 1
         (
             &[
                 (&[3, -2], -1, false),

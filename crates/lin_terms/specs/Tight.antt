@@ -8,16 +8,19 @@ use Rattle.lin_terms.specs.Row.{Holds}
 abbrev pub never_row : ℕ → Row
 never_row columns = record { coefs = replicate columns (pos 0); constant = negsuc 0; equality = false }
 
--- the row over the divisor of its coefficients, its constant rounded down
+-- the row over a divisor of its coefficients, its constant rounded down
 abbrev pub divided_row : ℕ → Row → Row
-divided_row divisor row =
-    record { coefs = map (λ x. floor_div x divisor) row.coefs; constant = floor_div row.constant divisor; equality = row.equality }
+divided_row divisor row = record {
+  coefs = map (λ x. floor_div x divisor) row.coefs;
+  constant = floor_div row.constant divisor;
+  equality = row.equality;
+}
 
--- Whether the row is an equality whose constant the divisor of its coefficients does not divide: then no whole numbers meet it.
+-- Whether it is an equality whose constant the divisor of its coefficients does not divide: no whole numbers meet it.
 abbrev pub is_unsolvable : ℕ → Row → Bool
 is_unsolvable divisor row = row.equality && not (unsigned_abs row.constant % divisor == 0)
 
--- the tight row, where this is the greatest common divisor of the coefficients; a row without variables stays
+-- the tight row, given the greatest common divisor of the coefficients; a row without variables stays
 abbrev pub tight_by : ℕ → Row → Row
 tight_by zero row = row
 tight_by (suc n) row = if is_unsolvable (suc n) row then never_row (length row.coefs) else divided_row (suc n) row

@@ -87,6 +87,7 @@ fn constants_and_variables(rt: HostRuntime) -> Result<(), Fail> {
 #[test]
 fn tight_rows(rt: HostRuntime) -> Result<(), Fail> {
     let alloc = rt.alloc();
+    // Coefficients, constant and whether it is an equality, and these of the tight row.
     let rows: [(&[i64], i64, bool, &str); 16] = [
         (&[2, -4], 3, false, "[1, -2] 1 false"),
         (&[2, -4], -3, false, "[1, -2] -2 false"),
@@ -112,20 +113,14 @@ fn tight_rows(rt: HostRuntime) -> Result<(), Fail> {
     ];
     for (xs, constant, equality, want) in rows {
         let coefs = Items::from_slice(alloc, xs)?;
-        let made = tight(
-            alloc,
-            &Row {
-                coefs,
-                constant,
-                equality,
-            },
-        )?;
-        let got = format!(in alloc;
-            "{:?} {} {}",
-            made.coefs.as_slice(),
-            made.constant,
-            made.equality
-        )?;
+        let row = Row {
+            coefs,
+            constant,
+            equality,
+        };
+        let made = tight(alloc, &row)?;
+        let coefs = made.coefs.as_slice();
+        let got = format!(in alloc; "{coefs:?} {} {}", made.constant, made.equality)?;
         assert_eq!(rt; got.as_str(), want, "{xs:?} {constant} {equality}");
     }
     Ok(())
