@@ -1,6 +1,6 @@
 -- Dot products.
-use Rattle.std.proofs.Common.{◌≡◌, suc, List, [], ◌∷◌, arith, refl, ◌∙◌, ap, length}
-use Rattle.std.specs.Prelude.{ℤ, ◌+ℤ◌, ◌*ℤ◌}
+use Rattle.std.proofs.Common.{◌≡◌, ℕ, zero, suc, List, [], ◌∷◌, arith, refl, ◌∙◌, ap, length, get_or}
+use Rattle.std.specs.Prelude.{ℤ, pos, ◌+ℤ◌, ◌*ℤ◌}
 use Rattle.std.proofs.lemmas.Int.{ints}
 use Rattle.lin_terms.specs.Vectors.{dot, plus, scaled}
 use Rattle.lin_terms.proofs.Ring.{as_dif, same_dif, difs}
@@ -33,3 +33,14 @@ length-plus [] [] len = refl
 length-plus [] (y ∷ ys) len = absurd (omega arith)
 length-plus (x ∷ xs) [] len = refl
 length-plus (x ∷ xs) (y ∷ ys) len = ap suc (length-plus xs ys (omega arith))
+
+pub get_or-plus : (xs ys : List ℤ) (j : ℕ) → get_or (plus xs ys) j (pos 0) ≡ get_or xs j (pos 0) +ℤ get_or ys j (pos 0)
+get_or-plus [] ys j = omega (arith, ints)
+get_or-plus (x ∷ xs) [] j = omega (arith, ints)
+get_or-plus (x ∷ xs) (y ∷ ys) zero = refl
+get_or-plus (x ∷ xs) (y ∷ ys) (suc j) = get_or-plus xs ys j
+
+pub get_or-scaled : (k : ℤ) (xs : List ℤ) (j : ℕ) → get_or (scaled k xs) j (pos 0) ≡ k *ℤ get_or xs j (pos 0)
+get_or-scaled k [] j = omega (arith, ints)
+get_or-scaled k (x ∷ xs) zero = refl
+get_or-scaled k (x ∷ xs) (suc j) = get_or-scaled k xs j

@@ -44,7 +44,7 @@ dot-zeros (x ∷ xs) (v ∷ values) e =
 pub value_at-constant : (form : Form) (values : List ℤ) → is_constant form ≡ true → value_at form values ≡ form.constant
 value_at-constant form values e = rw (dot-zeros form.coefs values e) (omega (arith, ints))
 
-dot-replicate : (n : ℕ) (values : List ℤ) → dot (replicate n (pos 0)) values ≡ pos 0
+pub dot-replicate : (n : ℕ) (values : List ℤ) → dot (replicate n (pos 0)) values ≡ pos 0
 dot-replicate zero values = refl
 dot-replicate (suc n) [] = refl
 dot-replicate (suc n) (v ∷ values) = nothing_added v (dot (replicate n (pos 0)) values) (dot-replicate n values)

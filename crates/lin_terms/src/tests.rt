@@ -1,5 +1,5 @@
-//! Forms whose entries were worked out by hand.
-use crate::{Form, FormFault, add, constant_form, scale, variable_form};
+//! Forms and tight rows whose entries were worked out by hand.
+use crate::{Form, FormFault, Row, add, constant_form, scale, tight, variable_form};
 use sqlite_items::Items;
 use std::alloc::{AllocError, Global};
 use std::test::Fail;
@@ -81,5 +81,47 @@ fn constants_and_variables(rt: HostRuntime) -> Result<(), Fail> {
     assert!(rt; !second.same(&form(alloc, &[0, 1, 0], 1)?));
     assert!(rt; !second.same(&form(alloc, &[0, 1], 0)?));
     assert!(rt; form(alloc, &[0, 0], 4)?.is_constant());
+    Ok(())
+}
+
+#[test]
+fn tight_rows(rt: HostRuntime) -> Result<(), Fail> {
+    let alloc = rt.alloc();
+    // Coefficients, constant and whether it is an equality, and these of the tight row.
+    let rows: [(&[i64], i64, bool, &str); 16] = [
+        (&[2, -4], 3, false, "[1, -2] 1 false"),
+        (&[2, -4], -3, false, "[1, -2] -2 false"),
+        (&[2, -4], 3, true, "[0, 0] -1 false"),
+        (&[2, -4], -4, true, "[1, -2] -2 true"),
+        (&[6, 0, -9], 0, true, "[2, 0, -3] 0 true"),
+        (&[-6, 4], 5, false, "[-3, 2] 2 false"),
+        (&[3, 5], -7, false, "[3, 5] -7 false"),
+        (&[0, 7], 7, false, "[0, 1] 1 false"),
+        (&[0, -7], -1, false, "[0, -1] -1 false"),
+        (&[], 5, true, "[] 5 true"),
+        (&[0, 0], -5, true, "[0, 0] -5 true"),
+        (&[0], -2, false, "[0] -2 false"),
+        (&[i64::MIN, 0], i64::MAX, false, "[-1, 0] 0 false"),
+        (&[i64::MIN], -1, false, "[-1] -1 false"),
+        (&[i64::MIN], i64::MIN, true, "[-1] -1 true"),
+        (
+            &[i64::MIN, 1],
+            i64::MIN,
+            false,
+            "[-9223372036854775808, 1] -9223372036854775808 false",
+        ),
+    ];
+    for (xs, constant, equality, want) in rows {
+        let coefs = Items::from_slice(alloc, xs)?;
+        let row = Row {
+            coefs,
+            constant,
+            equality,
+        };
+        let made = tight(alloc, &row)?;
+        let coefs = made.coefs.as_slice();
+        let got = format!(in alloc; "{coefs:?} {} {}", made.constant, made.equality)?;
+        assert_eq!(rt; got.as_str(), want, "{xs:?} {constant} {equality}");
+    }
     Ok(())
 }

@@ -1,0 +1,151 @@
+-- Sums that are made one row after the other, and the columns that blocks of sums cover.
+use Rattle.std.proofs.Common.{lit<, ◌≡◌, ℕ, zero, suc, ◌+◌, ◌-◌, ◌*◌, ◌<◌, ◌≤◌, ◌^◌, List, [], ◌∷◌, arith, refl, sym, ap, subst, length, get_or, set, take, drop, min, replicate, ◌∙◌, ⊎_elim}
+use Rattle.std.specs.Prelude.{ℤ, pos, ◌+ℤ◌, ◌*ℤ◌, unsigned_abs, All}
+use Rattle.std.specs.List.{AllByRecursion}
+use Rattle.std.proofs.lemmas.Int.{ints}
+use Rattle.std.proofs.lemmas.Bool.{cases_lt}
+use Rattle.std.proofs.lemmas.List.{drop_more, get_or_past, get_or-map, get_or-take, get_or-drop, get_or-set_same, get_or-set_other, take_rest, drop_min, take_min}
+use Rattle.std.proofs.lemmas.List.Elements.{All-get_or, All-from_get_or, All-take, All-drop, recursion_from_All}
+use Rattle.lin_terms.specs.declared.row.Row.{Row}
+use Rattle.lin_terms.specs.Vectors.{dot}
+use Rattle.lin_terms.specs.Row.{IsNarrow, IsNarrowRow, columns_of, HaveOneLength}
+use Rattle.farkas_check.specs.Refutes.{column, constants}
+use Rattle.farkas_check.proofs.Wide.{unsigned_abs-product, unsigned_abs-sum}
+
+-- ---- one more product
+
+pub summed : (ms xs : List ℤ) (i : ℕ) (sum product all : ℤ) → i < length ms → i < length xs
+    → product ≡ get_or ms i (pos 0) *ℤ get_or xs i (pos 0)
+    → sum +ℤ dot (drop i ms) (drop i xs) ≡ all
+    → (sum +ℤ product) +ℤ dot (drop (i + 1) ms) (drop (i + 1) xs) ≡ all
+summed ms xs i sum product all in_ms in_xs is so_far =
+    let next = rw (drop_more ms i (pos 0) in_ms, drop_more xs i (pos 0) in_xs, ← is) at so_far in
+    omega (arith, ints)
+
+pub grown : (i : ℕ) (sum product : ℤ) → unsigned_abs sum ≤ i * 2 ^ 112 → unsigned_abs product < 2 ^ 112
+    → unsigned_abs (sum +ℤ product) ≤ (i + 1) * 2 ^ 112
+grown i sum product bound small = omega (arith, unsigned_abs-sum sum product)
+
+length-constants : (rows : List Row) → length (constants rows) ≡ length rows
+length-constants [] = refl
+length-constants (row ∷ rows) = ap suc (length-constants rows)
+
+length-column : (j : ℕ) (rows : List Row) → length (column j rows) ≡ length rows
+length-column j [] = refl
+length-column j (row ∷ rows) = ap suc (length-column j rows)
+
+-- ---- the constants
+
+pub constant_summed : (ms : List ℤ) (rows : List Row) (i : ℕ) (row : Row) (sum product all : ℤ) → length ms ≡ length rows
+    → i < length rows → row ≡ get_or rows i row → product ≡ get_or ms i (pos 0) *ℤ row.constant
+    → sum +ℤ dot (drop i ms) (drop i (constants rows)) ≡ all
+    → (sum +ℤ product) +ℤ dot (drop (i + 1) ms) (drop (i + 1) (constants rows)) ≡ all
+constant_summed ms rows i row sum product all as_many below is made so_far =
+    let at_row : get_or (constants rows) i (pos 0) ≡ row.constant = get_or-map (λ (r : Row). r.constant) rows i row (pos 0) below ∙ ap (λ (r : Row). r.constant) (sym is) in
+    summed ms (constants rows) i sum product all (omega arith) (omega (arith, length-constants rows))
+    (made ∙ ap (λ z. get_or ms i (pos 0) *ℤ z) (sym at_row)) so_far
+
+-- ---- entries that are added to sums
+
+pub entries_added : (sums before entries : List ℤ) (m : ℤ) (i : ℕ) (v : ℤ) → i < length sums
+    → v ≡ get_or before i (pos 0) +ℤ (m *ℤ get_or entries i (pos 0))
+    → ((k : ℕ) → k < i → get_or sums k (pos 0) ≡ get_or before k (pos 0) +ℤ (m *ℤ get_or entries k (pos 0)))
+    → (k : ℕ) → k < i + 1 → get_or (set sums i v) k (pos 0) ≡ get_or before k (pos 0) +ℤ (m *ℤ get_or entries k (pos 0))
+entries_added sums before entries m i v in_sums is added k below =
+    ⊎_elim (λ (h : k < i). get_or-set_other sums i k v (pos 0) (omega arith) ∙ added k h)
+    (λ (h : i ≤ k). let at_i : k ≡ i = omega arith in rw at_i (get_or-set_same sums i v (pos 0) in_sums ∙ is)) (cases_lt k i)
+
+pub entries_left : (sums before : List ℤ) (i : ℕ) (v : ℤ) → ((k : ℕ) → i ≤ k → get_or sums k (pos 0) ≡ get_or before k (pos 0))
+    → (k : ℕ) → i + 1 ≤ k → get_or (set sums i v) k (pos 0) ≡ get_or before k (pos 0)
+entries_left sums before i v left k past = get_or-set_other sums i k v (pos 0) (omega arith) ∙ left k (omega arith)
+
+-- ---- the sums of a block of columns
+
+zeros_at : (n k : ℕ) → get_or (replicate n (pos 0)) k (pos 0) ≡ pos 0
+zeros_at zero k = refl
+zeros_at (suc n) zero = refl
+zeros_at (suc n) (suc k) = zeros_at n k
+
+pub zeros_sum : (n k : ℕ) (all : ℤ) → get_or (replicate n (pos 0)) k (pos 0) +ℤ all ≡ all
+zeros_sum n k all = rw (zeros_at n k) (omega (arith, ints))
+
+pub zeros_bound : (n k : ℕ) → unsigned_abs (get_or (replicate n (pos 0)) k (pos 0)) ≤ 0
+zeros_bound n k = rw (zeros_at n k) (omega arith)
+
+narrow_row : (rows : List Row) (i : ℕ) (row : Row) → i < length rows → row ≡ get_or rows i row → All IsNarrowRow rows → IsNarrowRow row
+narrow_row rows i row below is narrow = subst IsNarrowRow (sym is) (narrow i row below)
+
+pub narrow_block : (rows : List Row) (i first : ℕ) (row : Row) → i < length rows → row ≡ get_or rows i row → All IsNarrowRow rows
+    → All IsNarrow (take 32 (drop first row.coefs))
+narrow_block rows i first row below is narrow =
+    All-take IsNarrow 32 (drop first row.coefs) (All-drop IsNarrow first row.coefs (narrow_row rows i row below is narrow).coefs)
+
+narrow_entry : (entries : List ℤ) (k : ℕ) → All IsNarrow entries → IsNarrow (get_or entries k (pos 0))
+narrow_entry entries k narrow =
+    ⊎_elim (λ (h : k < length entries). All-get_or IsNarrow entries k (pos 0) h narrow)
+    (λ (h : length entries ≤ k). rw (get_or_past entries k (pos 0) h) (lit< tt)) (cases_lt k (length entries))
+
+pub block_bound : (i k : ℕ) (m old new : ℤ) (entries : List ℤ) → IsNarrow m → All IsNarrow entries
+    → new ≡ old +ℤ (m *ℤ get_or entries k (pos 0)) → unsigned_abs old ≤ i * 2 ^ 112 → unsigned_abs new ≤ (i + 1) * 2 ^ 112
+block_bound i k m old new entries narrow_m narrow is bound =
+    rw is (grown i old (m *ℤ get_or entries k (pos 0)) bound (unsigned_abs-product m (get_or entries k (pos 0)) narrow_m (narrow_entry entries k narrow)))
+
+-- a block as the code takes it
+pub block_of : (first : ℕ) (coefs : List ℤ)
+    → (let left : List ℤ = take (length coefs - min first (length coefs)) (drop (min first (length coefs)) coefs) in take (min 32 (length left)) left ≡ take 32 (drop first coefs))
+block_of first coefs = rw (take_rest coefs (min first (length coefs)), drop_min first coefs) (take_min 32 (drop first coefs))
+
+entry_at : (coefs : List ℤ) (first k : ℕ) → k < 32 → get_or (take 32 (drop first coefs)) k (pos 0) ≡ get_or coefs (first + k) (pos 0)
+entry_at coefs first k below = get_or-take 32 (drop first coefs) k (pos 0) below ∙ get_or-drop first coefs k (pos 0)
+
+pub block_summed : (ms : List ℤ) (rows : List Row) (i first k : ℕ) (row : Row) (old new all : ℤ) → length ms ≡ length rows
+    → i < length rows → row ≡ get_or rows i row → k < 32
+    → new ≡ old +ℤ (get_or ms i (pos 0) *ℤ get_or (take 32 (drop first row.coefs)) k (pos 0))
+    → old +ℤ dot (drop i ms) (drop i (column (first + k) rows)) ≡ all
+    → new +ℤ dot (drop (i + 1) ms) (drop (i + 1) (column (first + k) rows)) ≡ all
+block_summed ms rows i first k row old new all as_many below is in_block made so_far =
+    let j : ℕ = first + k in
+    let at_row : get_or (column j rows) i (pos 0) ≡ get_or row.coefs j (pos 0) = get_or-map (λ (r : Row). get_or r.coefs j (pos 0)) rows i row (pos 0) below ∙ ap (λ (r : Row). get_or r.coefs j (pos 0)) (sym is) in
+    let m : ℤ = get_or ms i (pos 0) in
+    let product : ℤ = m *ℤ get_or (take 32 (drop first row.coefs)) k (pos 0) in
+    rw made (summed ms (column j rows) i old product all (omega arith) (omega (arith, length-column j rows))
+    (ap (λ z. m *ℤ z) (entry_at row.coefs first k in_block ∙ sym at_row)) so_far)
+
+-- ---- all columns
+
+-- the sums are those of a block of columns
+abbrev pub AreSums : ℕ → List ℤ → List Row → List ℤ → Type 0
+AreSums first ms rows sums = (k : ℕ) → k < 32 → get_or sums k (pos 0) ≡ dot ms (column (first + k) rows)
+
+pub zeros_more : (block : ℕ) (ms : List ℤ) (rows : List Row) (sums : List ℤ) → length sums ≡ 32 → AreSums (block * 32) ms rows sums
+    → All (λ sum. sum ≡ pos 0) sums → ((j : ℕ) → j < block * 32 → dot ms (column j rows) ≡ pos 0)
+    → (j : ℕ) → j < (block + 1) * 32 → dot ms (column j rows) ≡ pos 0
+zeros_more block ms rows sums long are_sums zeros before j below =
+    ⊎_elim (λ (h : j < block * 32). before j h)
+    (λ (h : block * 32 ≤ j).
+    let k : ℕ = j - block * 32 in
+    let in_block : k < 32 = omega arith in
+    let is : block * 32 + k ≡ j = omega arith in
+    subst (λ n. dot ms (column n rows) ≡ pos 0) is (sym (are_sums k in_block) ∙ All-get_or (λ (sum : ℤ). sum ≡ pos 0) sums k (pos 0) (omega arith) zeros))
+    (cases_lt j (block * 32))
+
+pub zeros_in_block : (first : ℕ) (ms : List ℤ) (rows : List Row) (sums : List ℤ) → length sums ≡ 32 → AreSums first ms rows sums
+    → ((j : ℕ) → dot ms (column j rows) ≡ pos 0) → All (λ sum. sum ≡ pos 0) sums
+zeros_in_block first ms rows sums long are_sums zeros =
+    All-from_get_or (λ (sum : ℤ). sum ≡ pos 0) sums (pos 0) (λ k below. are_sums k (omega arith) ∙ zeros (first + k))
+
+-- past the rows' length a column is 0
+dot-past : (n : ℕ) (ms : List ℤ) (rows : List Row) (j : ℕ) → n ≤ j → AllByRecursion (λ row. length row.coefs ≡ n) rows
+    → dot ms (column j rows) ≡ pos 0
+dot-past n [] rows j past lengths = refl
+dot-past n (m ∷ ms) [] j past lengths = refl
+dot-past n (m ∷ ms) (row ∷ rows) j past lengths =
+    rw (get_or_past row.coefs j (pos 0) (omega (arith, lengths.0)), dot-past n ms rows j past lengths.1) (omega (arith, ints))
+
+pub zeros_all : (covered : ℕ) (ms : List ℤ) (rows : List Row) → HaveOneLength rows → columns_of rows ≤ covered
+    → ((j : ℕ) → j < covered → dot ms (column j rows) ≡ pos 0) → (j : ℕ) → dot ms (column j rows) ≡ pos 0
+zeros_all covered ms rows one_length enough zeros j =
+    let n : ℕ = columns_of rows in
+    ⊎_elim (λ (h : j < covered). zeros j h)
+    (λ (h : covered ≤ j). dot-past n ms rows j (omega arith) (recursion_from_All (λ (row : Row). length row.coefs ≡ n) rows one_length))
+    (cases_lt j covered)

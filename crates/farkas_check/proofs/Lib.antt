@@ -1,0 +1,4 @@
+pub mod Soundness
+pub mod Wide
+pub mod Adding
+mod Samples

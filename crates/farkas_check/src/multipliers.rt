@@ -1,0 +1,84 @@
+//! The check: the signs of the multipliers, then the constant of the sum, then its columns.
+ghost use Rattle.std.specs.Prelude.{◌≡◌, ℕ, ◌↔◌, ◌≤ℤ◌, pos, negsuc, All, IsTrue, length};
+ghost use Rattle.std.specs.List.{AllZip};
+ghost use Rattle.lin_terms.specs.Row.{columns_of, HasNoPoint, HasNoIntegerPoint};
+ghost use Rattle.lin_terms.specs.Vectors.{dot};
+ghost use Rattle.farkas_check.specs.Refutes.{column, constants, MayMultiply, Refutes, IsCheckable};
+
+use crate::sums::{WIDTH, column_sums, constant_sum};
+use lin_terms::Row;
+
+fn may_multiply(row: &Row, multiplier: &i128) -> bool
+    ensures { IsTrue result ↔ MayMultiply row.now multiplier.now }
+{
+    row.equality || *multiplier >= 0
+}
+
+fn all_may_multiply(rows: &[Row], multipliers: &[i128]) -> bool
+    requires { length multipliers.now ≡ length rows.now }
+    ensures { IsTrue result ↔ AllZip MayMultiply rows.now multipliers.now }
+{
+    for (i, row) in rows.iter().enumerate() {
+        if !may_multiply(row, &multipliers[i]) {
+            return false;
+        }
+    }
+    true
+}
+
+fn leave_negative_constant(rows: &[Row], multipliers: &[i128]) -> bool
+    requires { IsCheckable rows.now multipliers.now }
+    ensures { IsTrue result ↔ (dot multipliers.now (constants rows.now) ≤ℤ negsuc 0) }
+{
+    constant_sum(rows, multipliers) < 0
+}
+
+fn are_zeros(sums: &[i128]) -> bool
+    ensures { IsTrue result ↔ All (λ sum. sum ≡ pos 0) sums.now }
+{
+    sums.iter().all(|sum| *sum == 0)
+}
+
+/// The number of columns of rows of one length.
+pub fn columns_of(rows: &[Row]) -> usize
+    ensures { result ≡ columns_of rows.now }
+{
+    match rows {
+        [] => 0,
+        [first, ..] => first.coefs.len(),
+    }
+}
+
+fn leave_no_variable(rows: &[Row], multipliers: &[i128]) -> bool
+    requires { IsCheckable rows.now multipliers.now }
+    ensures { IsTrue result ↔ ((j : ℕ) → dot multipliers.now (column j rows.now) ≡ pos 0) }
+{
+    for block in 0..columns_of(rows).div_ceil(WIDTH) {
+        if !are_zeros(&column_sums(rows, multipliers, block * WIDTH)) {
+            return false;
+        }
+    }
+    true
+}
+
+/// Whether the rows, each times its multiplier, add up to a row without variables whose constant is at most -1, and no
+/// multiplier is negative except at an equality (Farkas' lemma). An empty list of rows is not refuted.
+///
+/// It is asked of at most 4,096 rows of one length, a multiplier for each, with all entries and multipliers below 2^56
+/// in size. It takes no memory.
+///
+/// Example: no point meets `3x - 2y - 1 >= 0`, `-3x - y + 2 >= 0`, `y >= 0` and `x - 1 >= 0`, since the multipliers
+/// 0, 1, 1 and 3 refute these rows: `(-3x - y + 2) + y + 3(x - 1)` is -1, and -1 is not at least 0. The multipliers
+/// 0, 1, 1 and 2 do not, since their sum `-x` has the variable x; nor do 0, 0, 0 and 0, since 0 is at least 0.
+pub fn refutes(rows: &[Row], multipliers: &[i128]) -> bool
+    requires { IsCheckable rows.now multipliers.now }
+    ensures exact { IsTrue result ↔ Refutes rows.now multipliers.now }
+
+    // Where it says yes, there is no point, be it of whole numbers or of fractions.
+    ensures no_integer_point { IsTrue result → HasNoIntegerPoint rows.now }
+    ensures no_point { IsTrue result → HasNoPoint rows.now }
+{
+    all_may_multiply(rows, multipliers)
+        && leave_negative_constant(rows, multipliers)
+        && leave_no_variable(rows, multipliers)
+}
