@@ -95,7 +95,7 @@ unfolding equal
 stays_equal x y l' r' d' e' inside first second = rw (first.0, first.1, second.0, second.1) inside
 
 kept : (l r l' r' : Place) (d e d' e' : List ℤ) → node l r ≢ node place.Exit place.Exit → FitsPlace plain l d → FitsPlace copying r e
-    → InFamily equal (node l r) (d ++ e) → Moves plain copying 1 l d r e l' d' r' e' → InFamily equal (node l' r') (d' ++ e')
+    → InFamily equal (node l r) (d ++ e) → Moves plain copying 1 l r d e l' r' d' e' → InFamily equal (node l' r') (d' ++ e')
 unfolding plain copying equal counts_of
 kept place.Entry place.Entry l' r' [] e d' e' away fits_first fits_second inside moves = cc
 kept place.Entry place.Entry l' r' (x ∷ d) [] d' e' away fits_first fits_second inside moves = cc
