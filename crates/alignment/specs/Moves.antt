@@ -17,8 +17,8 @@ Takes f (suc n) (place.Mark k) e l' e' =
     ((values : List ℤ) × IsSegment f (place.Mark k) e (place.Mark k) values × Takes f n (place.Mark k) values l' e')
     ⊎ (IsSegment f (place.Mark k) e l' e' × (l' ≢ place.Mark k))
 
--- At the node of the places `l` and `r`, with the values `d` and `e`, both sides take their segments of the alignment; they
--- then stand at `l'` with `d'` and at `r'` with `e'`.
-pub record Moves (f g : Program) (alignment : ℕ) (l : Place) (d : List ℤ) (r : Place) (e : List ℤ) (l' : Place) (d' : List ℤ) (r' : Place) (e' : List ℤ) : Type 0 where
+-- At the node of the places `l` and `r`, where the values are `d` and `e`, both sides take their segments of the alignment,
+-- and then stand at `l'` and `r'` with `d'` and `e'`.
+pub record Moves (f g : Program) (alignment : ℕ) (l r : Place) (d e : List ℤ) (l' r' : Place) (d' e' : List ℤ) : Type 0 where
   pub first : Takes f (counts_at (counts_of alignment) l r).0 l d l' d'
   pub second : Takes g (counts_at (counts_of alignment) l r).1 r e r' e'

@@ -6,3 +6,4 @@ pub mod Splitting
 pub mod Moving
 pub mod Values
 pub mod Following
+pub mod Samples

@@ -25,7 +25,7 @@ ForcesEqualResults atoms = Contains atoms equal_results ⊎ Contains atoms False
 pub record IsCoupling (f g : Program) (alignment : ℕ) (family : Family) : Type 0 where
   pub at_entries : atoms_at family (node place.Entry place.Entry) ≡ Some (equal_parameters f.params)
   pub kept : (l r l' r' : Place) (d e d' e' : List ℤ) → node l r ≢ node place.Exit place.Exit → FitsPlace f l d → FitsPlace g r e
-      → InFamily family (node l r) (d ++ e) → Moves f g alignment l d r e l' d' r' e' → InFamily family (node l' r') (d' ++ e')
+      → InFamily family (node l r) (d ++ e) → Moves f g alignment l r d e l' r' d' e' → InFamily family (node l' r') (d' ++ e')
   pub at_exits : IsSomeAnd (atoms_at family (node place.Exit place.Exit)) ForcesEqualResults
 
 -- No inputs make the two functions return differently.

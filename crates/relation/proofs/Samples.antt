@@ -1,0 +1,115 @@
+-- The definitions on small functions: segments, moves, and a coupling.
+use Rattle.std.proofs.Common.{◌≡◌, ◌≢◌, ℕ, zero, suc, inl, inr, true, List, [], ◌∷◌, ◌++◌, Some, ℤ, pos, refl, sym, ap, subst, arith}
+use Rattle.c_ast.specs.declared.expr.BinOp.TheVariants.{Add, Less}
+use Rattle.c_ast.specs.declared.place.Place.{Place}
+use Rattle.c_ast.specs.declared.place.Place.TheVariants as place
+use Rattle.c_ast.specs.Tree.{Num, Var, Bin, Nil, Set, Loop, Return, Program}
+use Rattle.c_ast.specs.Step.{Work, scope_of, spread, start}
+use Rattle.c_ast.specs.Segment.{FitsPlace, IsSegment, met_within}
+use Rattle.alignment.specs.Counts.{counts_of}
+use Rattle.alignment.specs.Moves.{Takes, Moves}
+use Rattle.horn_clauses.specs.declared.family.Family.{Family}
+use Rattle.horn_clauses.specs.Node.{node}
+use Rattle.horn_clauses.specs.Family.{InFamily}
+use Rattle.relation.specs.Equalities.{equal_parameters, equal_results}
+use Rattle.relation.specs.Coupling.{IsCoupling}
+
+-- int f(int n) { int i = 0; while (i < n) i = i + 1; return i; }, where the loop has the mark 7
+counter : Program
+counter = record {
+  params = 1;
+  vars = 2;
+  body = Set 1 (Num (pos 0)) (Loop (Some 7) (Bin Less (Var 1) (Var 0)) (Set 1 (Bin Add (Var 1) (Num (pos 1))) Nil) Nil true (Return (Var 1) Nil));
+}
+
+to_the_mark : IsSegment counter place.Entry (pos 1 ∷ []) (place.Mark 7) (pos 1 ∷ pos 0 ∷ [])
+unfolding counter
+to_the_mark = record { work = start counter; from = refl; steps = 20; met = refl }
+
+round_the_loop : IsSegment counter (place.Mark 7) (pos 1 ∷ pos 0 ∷ []) (place.Mark 7) (pos 1 ∷ pos 1 ∷ [])
+unfolding counter
+round_the_loop = record { work = _; from = inl (refl, refl); steps = 20; met = refl }
+
+to_the_exit : IsSegment counter (place.Mark 7) (pos 1 ∷ pos 1 ∷ []) place.Exit (pos 1 ∷ [])
+unfolding counter
+to_the_exit = record { work = _; from = inl (refl, refl); steps = 20; met = refl }
+
+-- From the entry two segments are taken, the second of which ends where it began.
+takes_two : Takes counter 2 place.Entry (pos 1 ∷ []) (place.Mark 7) (pos 1 ∷ pos 1 ∷ [])
+takes_two = (place.Mark 7, pos 1 ∷ pos 0 ∷ [], to_the_mark, inl (pos 1 ∷ pos 1 ∷ [], round_the_loop, (refl, refl)))
+
+-- A side that leaves its mark stops, though it has taken one segment of three.
+stops_early : Takes counter 3 (place.Mark 7) (pos 1 ∷ pos 1 ∷ []) place.Exit (pos 1 ∷ [])
+stops_early = inr (to_the_exit, λ same. cc)
+
+-- ---- int f(int a) { return a; } and int g(int a) { int b = 0; b = a; return b; }
+
+plain : Program
+plain = record { params = 1; vars = 1; body = Return (Var 0) Nil }
+
+copying : Program
+copying = record { params = 1; vars = 2; body = Set 1 (Num (pos 0)) (Set 1 (Var 0) (Return (Var 1) Nil)) }
+
+-- the parameters are equal at the entries, and the results at the exits
+equal : Family
+equal = record {
+  nodes = (node place.Entry place.Entry, equal_parameters 1) ∷ (node place.Exit place.Exit, equal_results ∷ []) ∷ [];
+}
+
+abbrev Met : Type 0
+Met = Place × List ℤ
+
+met_is : (found met : Met) → Some found ≡ Some met → (met.0 ≡ found.0) × (met.1 ≡ found.1)
+met_is found met same = let is : found ≡ met = cc in (sym (ap (λ (z : Met). z.0) is), sym (ap (λ (z : Met). z.1) is))
+
+-- The one segment of each ends at the exit, with the input.
+plain_goes_out : (x : ℤ) (met : Met) → IsSegment plain place.Entry (x ∷ []) met.0 met.1 → (met.0 ≡ place.Exit) × (met.1 ≡ x ∷ [])
+unfolding plain
+plain_goes_out x met segment =
+    after segment.steps (subst (λ (work : Work). met_within segment.steps work (spread (scope_of work) 1 (x ∷ [])) ≡ Some met) segment.from segment.met)
+  where
+    after : (steps : ℕ) → met_within steps (start plain) (x ∷ []) ≡ Some met → (met.0 ≡ place.Exit) × (met.1 ≡ x ∷ [])
+    after zero same = cc
+    after (suc n) same = met_is (place.Exit, x ∷ []) met same
+
+copying_goes_out : (x : ℤ) (met : Met) → IsSegment copying place.Entry (x ∷ []) met.0 met.1 → (met.0 ≡ place.Exit) × (met.1 ≡ x ∷ [])
+unfolding copying
+copying_goes_out x met segment =
+    after segment.steps (subst (λ (work : Work). met_within segment.steps work (spread (scope_of work) 2 (x ∷ [])) ≡ Some met) segment.from segment.met)
+  where
+    after : (steps : ℕ) → met_within steps (start copying) (x ∷ pos 0 ∷ []) ≡ Some met → (met.0 ≡ place.Exit) × (met.1 ≡ x ∷ [])
+    after zero same = cc
+    after (suc zero) same = cc
+    after (suc (suc zero)) same = cc
+    after (suc (suc (suc n))) same = met_is (place.Exit, x ∷ []) met same
+
+-- One segment is taken from the entry.
+take_one : (f : Program) (e e' : List ℤ) (l' : Place) → Takes f 1 place.Entry e l' e' → IsSegment f place.Entry e l' e'
+take_one f e e' l' takes =
+    let at_place = subst (λ (z : Place). IsSegment f place.Entry e z takes.1) (sym takes.3.0) takes.2 in
+    subst (λ (z : List ℤ). IsSegment f place.Entry e l' z) (sym takes.3.1) at_place
+
+stays_equal : (x y : ℤ) (l' r' : Place) (d' e' : List ℤ) → InFamily equal (node place.Entry place.Entry) (x ∷ y ∷ []) → (l' ≡ place.Exit) × (d' ≡ x ∷ [])
+    → (r' ≡ place.Exit) × (e' ≡ y ∷ []) → InFamily equal (node l' r') (d' ++ e')
+unfolding equal
+stays_equal x y l' r' d' e' inside first second = rw (first.0, first.1, second.0, second.1) inside
+
+kept : (l r l' r' : Place) (d e d' e' : List ℤ) → node l r ≢ node place.Exit place.Exit → FitsPlace plain l d → FitsPlace copying r e
+    → InFamily equal (node l r) (d ++ e) → Moves plain copying 1 l r d e l' r' d' e' → InFamily equal (node l' r') (d' ++ e')
+unfolding plain copying equal counts_of
+kept place.Entry place.Entry l' r' [] e d' e' away fits_first fits_second inside moves = cc
+kept place.Entry place.Entry l' r' (x ∷ d) [] d' e' away fits_first fits_second inside moves = cc
+kept place.Entry place.Entry l' r' (x ∷ []) (y ∷ []) d' e' away fits_first fits_second inside moves = stays_equal x y l' r' d' e' inside
+    (plain_goes_out x (l', d') (take_one plain (x ∷ []) d' l' moves.first)) (copying_goes_out y (r', e') (take_one copying (y ∷ []) e' r' moves.second))
+kept place.Entry place.Entry l' r' (x ∷ v ∷ d) (y ∷ e) d' e' away fits_first fits_second inside moves = absurd (omega (arith, fits_first))
+kept place.Entry place.Entry l' r' (x ∷ []) (y ∷ v ∷ e) d' e' away fits_first fits_second inside moves = absurd (omega (arith, fits_second))
+kept place.Entry (place.Mark k) l' r' d e d' e' away fits_first fits_second inside moves = absurd inside
+kept place.Entry place.Exit l' r' d e d' e' away fits_first fits_second inside moves = absurd inside
+kept (place.Mark j) r l' r' d e d' e' away fits_first fits_second inside moves = absurd inside
+kept place.Exit place.Entry l' r' d e d' e' away fits_first fits_second inside moves = absurd inside
+kept place.Exit (place.Mark k) l' r' d e d' e' away fits_first fits_second inside moves = absurd inside
+kept place.Exit place.Exit l' r' d e d' e' away fits_first fits_second inside moves = absurd (away refl)
+
+couples : IsCoupling plain copying 1 equal
+unfolding plain copying equal
+couples = record { at_entries = refl; kept = kept; at_exits = inl (0, omega arith, refl) }
