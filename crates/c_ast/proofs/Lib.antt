@@ -8,3 +8,4 @@ pub mod NextPlace
 pub mod Places
 pub mod Fronts
 pub mod Steps
+pub mod InScope
