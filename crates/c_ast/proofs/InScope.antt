@@ -93,7 +93,7 @@ is_in-append (y ∷ a) b x = ap (λ (t : Bool). eqb y x || t) (is_in-append a b 
     assoc true q r = refl
     assoc false q r = refl
 
-is_in-first_variables : (n x : ℕ) → is_in (first_variables n) x ≡ nat_lt x n
+pub is_in-first_variables : (n x : ℕ) → is_in (first_variables n) x ≡ nat_lt x n
 is_in-first_variables zero x = grind (arith, nat_tests)
 is_in-first_variables (suc n) x = on (eqb n x) refl (is_in-first_variables n x)
   where

@@ -9,3 +9,5 @@ pub mod Places
 pub mod Fronts
 pub mod Steps
 pub mod InScope
+pub mod Environments
+pub mod Interpreting
