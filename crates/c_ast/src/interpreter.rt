@@ -291,7 +291,7 @@ pub fn interpret(
     let mut work = VecDeque::new(alloc);
     put(&mut work, Item::Run(func.body()))?;
     let mut events = Items::new(alloc);
-    for _ in 0..steps {
+    for _taken in 0..steps {
         match step(&mut work, &mut environment)? {
             Next::Goes => {}
             Next::Passes(mark) => {
