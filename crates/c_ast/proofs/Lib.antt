@@ -8,3 +8,6 @@ pub mod NextPlace
 pub mod Places
 pub mod Fronts
 pub mod Steps
+pub mod InScope
+pub mod Environments
+pub mod Interpreting

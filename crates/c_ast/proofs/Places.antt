@@ -199,7 +199,7 @@ values_fit f mark work env follows len =
 
 -- ---- the number of values stays
 
-abbrev HasLength : ℕ → Next → Type 0
+abbrev pub HasLength : ℕ → Next → Type 0
 HasLength n (Goes w env) = length env ≡ n
 HasLength n (Passes k w env) = length env ≡ n
 HasLength n (Ends v) = Unit {0}
@@ -208,7 +208,7 @@ length_tested : (n : ℕ) (m : Option ℕ) (w : Work) (env : List ℤ) → lengt
 length_tested n None w env h = h
 length_tested n (Some k) w env h = h
 
-length_step : (n : ℕ) (w : Work) (env : List ℤ) → length env ≡ n → HasLength n (step w env)
+pub length_step : (n : ℕ) (w : Work) (env : List ℤ) → length env ≡ n → HasLength n (step w env)
 length_step n [] env h = tt
 length_step n (Run s Nil ∷ w) env h = h
 length_step n (Run s (Set x e c) ∷ w) env h = length-set env x (eval e env) ∙ h

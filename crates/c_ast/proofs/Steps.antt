@@ -2,11 +2,11 @@
 use Rattle.std.proofs.Common.{◌≡◌, ℕ, zero, suc, ◌+◌, ◌≤◌, Bool, true, false, cond, List, [], ◌∷◌, length, get_or, take, drop, slice_set, ◌-◌, ◌<◌, take_all, Option, Some, None, ℤ, pos, refl, sym, ap, ◌∙◌, subst, arith}
 use Rattle.c_ast.specs.declared.expr.Expr.{Expr}
 use Rattle.c_ast.specs.declared.stmt.Stmt.{Stmt, Set, If, Loop, Break, Continue, Return, Mark, Block}
-use Rattle.c_ast.specs.declared.interpret.Parts.{Parts}
-use Rattle.c_ast.specs.declared.interpret.Item.{Item}
-use Rattle.c_ast.specs.declared.interpret.Item.TheVariants as item
-use Rattle.c_ast.specs.declared.interpret.Next.{Next}
-use Rattle.c_ast.specs.declared.interpret.Next.TheVariants as next
+use Rattle.c_ast.specs.declared.interpreter.Parts.{Parts}
+use Rattle.c_ast.specs.declared.interpreter.Item.{Item}
+use Rattle.c_ast.specs.declared.interpreter.Item.TheVariants as item
+use Rattle.c_ast.specs.declared.interpreter.Next.{Next}
+use Rattle.c_ast.specs.declared.interpreter.Next.TheVariants as next
 use Rattle.c_ast.specs.Tree as tree
 use Rattle.c_ast.specs.Tree.{Expression, Statements}
 use Rattle.c_ast.specs.Value.{eval, is_nonzero}

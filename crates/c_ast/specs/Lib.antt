@@ -14,3 +14,4 @@ pub mod Laws
 pub mod Shown
 pub mod Within
 pub mod Scope
+pub mod Interpreted

@@ -1,10 +1,10 @@
 -- The work that the interpreter's items stand for. They have no scopes, so those of their work are empty.
 use Rattle.std.specs.Prelude.{◌≡◌, ℕ, Bool, true, false, List, [], ◌∷◌, Option, Some, None, ℤ}
-use Rattle.c_ast.specs.declared.interpret.Parts.{Parts}
-use Rattle.c_ast.specs.declared.interpret.Item.{Item}
-use Rattle.c_ast.specs.declared.interpret.Item.TheVariants as item
-use Rattle.c_ast.specs.declared.interpret.Next.{Next}
-use Rattle.c_ast.specs.declared.interpret.Next.TheVariants as next
+use Rattle.c_ast.specs.declared.interpreter.Parts.{Parts}
+use Rattle.c_ast.specs.declared.interpreter.Item.{Item}
+use Rattle.c_ast.specs.declared.interpreter.Item.TheVariants as item
+use Rattle.c_ast.specs.declared.interpreter.Next.{Next}
+use Rattle.c_ast.specs.declared.interpreter.Next.TheVariants as next
 use Rattle.c_ast.specs.Tree.{Expression}
 use Rattle.c_ast.specs.View.{expression_of, statements_of}
 use Rattle.c_ast.specs.Narrow.{all_narrow}

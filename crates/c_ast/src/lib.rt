@@ -8,7 +8,7 @@
 mod copy;
 mod expr;
 mod func;
-mod interpret;
+mod interpreter;
 mod laws;
 mod name;
 mod place;
@@ -25,6 +25,7 @@ mod value;
 pub use copy::{copy_expr, copy_stmts};
 pub use expr::{BinOp, Expr, UnOp};
 pub use func::{Func, Var};
+pub use interpreter::{Outcome, interpret};
 pub use laws::{law_of_results, law_of_segments, law_of_traces};
 pub use name::Name;
 pub use place::{Place, Side};

@@ -1,7 +1,7 @@
 //! The variables in scope at a place (ISO C11, 6.2.1).
-ghost use Rattle.std.specs.Prelude.{◌≡◌, ◌==◌, IfOk};
+ghost use Rattle.std.specs.Prelude.{◌≡◌, ◌==◌, ◌++◌, IfOk};
 ghost use Rattle.c_ast.specs.View.{put_in_front, statements_of};
-ghost use Rattle.c_ast.specs.Step.{is_in};
+ghost use Rattle.c_ast.specs.Step.{is_in, first_variables};
 ghost use Rattle.c_ast.specs.Formed.{is_mark};
 ghost use Rattle.c_ast.specs.Scope.{none_before, set_before, SetsBefore};
 
@@ -118,6 +118,13 @@ impl Func {
         }
     }
 
+    /// Whether the variable is a parameter or one of these.
+    fn has(&self, before: &[u32], x: u32) -> bool
+        ensures { result ≡ is_in (before.now ++ first_variables self.now.params) x }
+    {
+        is_in(before, x) || x < self.params()
+    }
+
     /// The variables in scope at a place, by rising number. The place is the entry or one of the function's marks.
     pub fn scope(&self, alloc: Global, place: Place) -> Result<Vec<u32>, AllocError>
         requires program { IsProgram (program_of self.now) }
@@ -127,7 +134,7 @@ impl Func {
         let before = self.set_before_place(alloc, place)?;
         let mut variables = Vec::new(alloc);
         for x in 0..self.vars().len() as u32 {
-            if x < self.params() || is_in(before.as_slice(), x) {
+            if self.has(before.as_slice(), x) {
                 variables.push(x)?;
             }
         }

@@ -1,16 +1,32 @@
-//! A plain interpreter over the tree.
-ghost use Rattle.std.specs.Prelude.{◌≡◌, [], ◌∷◌, if◌then◌else◌, length, OnOk, IfOk};
+//! A plain interpreter over the tree, slow and exact. `step` is one step of a run, and the loop around it knows nothing
+//! of the language. Items of work have no scopes: at a mark the function says which variables are in scope there.
+ghost use Rattle.std.specs.Prelude.{◌≡◌, ◌≤◌, [], ◌∷◌, if◌then◌else◌, length, slice_index_or, pos, OnOk, IfOk};
 ghost use Rattle.c_ast.specs.View.{statements_of};
 ghost use Rattle.c_ast.specs.Value.{is_nonzero};
-ghost use Rattle.c_ast.specs.Step.{Run, Tail, entered, to_tail};
+ghost use Rattle.c_ast.specs.Step.{Run, Tail, entered, to_tail, first_variables, spread};
+ghost use Rattle.c_ast.specs.Formed.{IsProgram};
+ghost use Rattle.c_ast.specs.Function.{program_of};
+ghost use Rattle.c_ast.specs.Scope.{IsPlace};
+ghost use Rattle.c_ast.specs.Interpreted.{IsEvent, outcome_within};
 ghost use Rattle.c_ast.specs.Shown.{loop_of, item_of, work_of, TakesStep, IsTested, Cuts};
 ghost use Rattle.c_ast.specs.Within.{AreWithin, IsWorkWithin};
 
 use crate::value::is_nonzero;
-use crate::{Expr, Stmt, value_of};
+use crate::{Event, Expr, Func, Place, Stmt, Trace, value_of};
 use sqlite_items::Items;
-use std::alloc::AllocError;
+use std::alloc::{AllocError, Global};
 use std::collections::VecDeque;
+
+/// What comes of a run.
+#[derive(Debug, Drop)]
+pub enum Outcome {
+    /// The run ended, and this is its trace.
+    Returned(Trace),
+    /// A part of an evaluated expression, also one that C would skip, has a value of 2^100 or more in size.
+    Wide,
+    /// Neither happened within the steps.
+    CutOff,
+}
 
 /// The parts of a loop that a turn uses.
 #[derive(Clone, Copy)]
@@ -220,4 +236,71 @@ fn step<'a>(
             Ok(Next::Goes)
         }
     }
+}
+
+fn input_at(inputs: &[i128], x: usize) -> i128
+    ensures { result ≡ slice_index_or inputs.now x (pos 0) }
+{
+    if x < inputs.len() { inputs[x] } else { 0 }
+}
+
+/// The values of all variables as a run begins: the inputs, and 0 for all that are no parameters.
+fn first_environment(alloc: Global, vars: usize, inputs: &[i128]) -> Result<Vec<i128>, AllocError>
+    requires { length inputs.now ≤ vars }
+    ensures { IfOk result (λ values. values.items ≡ spread (first_variables (length inputs.now)) vars inputs.now) }
+{
+    let mut values = Vec::new(alloc);
+    for x in 0..vars {
+        values.push(input_at(inputs, x))?;
+    }
+    Ok(values)
+}
+
+/// The event of passing a mark with these values of all variables.
+fn event(
+    alloc: Global,
+    func: &Func,
+    mark: u32,
+    environment: &[i128],
+) -> Result<Event, AllocError>
+    requires program { IsProgram (program_of func.now) }
+    requires place { IsPlace (program_of func.now) (Place.Mark mark) }
+    requires variables { length environment.now ≡ length func.now.vars }
+    ensures { IfOk result (IsEvent (program_of func.now) mark environment.now) }
+{
+    let variables = func.scope(alloc, Place::Mark(mark))?;
+    let mut values = Items::new(alloc);
+    for x in &variables {
+        values.push(environment[*x as usize])?;
+    }
+    Ok(Event { mark, values })
+}
+
+/// What comes of at most this many steps of the function, where the parameters have these values.
+pub fn interpret(
+    alloc: Global,
+    func: &Func,
+    inputs: &[i128],
+    steps: u32,
+) -> Result<Outcome, AllocError>
+    requires program { IsProgram (program_of func.now) }
+    requires inputs { length inputs.now ≡ func.now.params }
+    ensures { IfOk result (λ outcome. outcome ≡ outcome_within steps (program_of func.now) inputs.now) }
+{
+    let mut environment = first_environment(alloc, func.vars().len(), inputs)?;
+    let mut work = VecDeque::new(alloc);
+    put(&mut work, Item::Run(func.body()))?;
+    let mut events = Items::new(alloc);
+    for _taken in 0..steps {
+        match step(&mut work, &mut environment)? {
+            Next::Goes => {}
+            Next::Passes(mark) => {
+                let event = event(alloc, func, mark, &environment)?;
+                events.push(event)?;
+            }
+            Next::Ends(result) => return Ok(Outcome::Returned(Trace { events, result })),
+            Next::Wide => return Ok(Outcome::Wide),
+        }
+    }
+    Ok(Outcome::CutOff)
 }

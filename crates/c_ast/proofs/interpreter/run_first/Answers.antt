@@ -3,7 +3,7 @@ use Rattle.std.proofs.Common.{ℤ, ◌≡◌, ◌-◌, List, length, take, drop,
 use Rattle.std.specs.Int.{w128}
 use Rattle.c_ast.specs.declared.stmt.Stmt.{Stmt, Set, If, Loop, Break, Continue, Return, Mark, Block}
 use Rattle.c_ast.proofs.Steps.{first_of, none_of, takes-Nil, takes-Set, takes-If, takes-Loop, takes-Break, takes-Continue, takes-Mark, takes-Block}
-use Rattle.c_ast.proofs.interpret.run_first.Goals as goal
+use Rattle.c_ast.proofs.interpreter.run_first.Goals as goal
 
 pub returns-in_default : goal.returns-in_default
 returns-in_default c = takes-Nil c.args.stmts.now c.args.environment.now c.args.work.now.items (none_of c.args.stmts.now c.in_default.len_below)
