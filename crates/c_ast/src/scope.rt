@@ -99,19 +99,19 @@ fn is_in(scope: &[u32], x: u32) -> bool
 }
 
 impl Func {
-    ghost use Rattle.c_ast.specs.Function.{program_of};
-    ghost use Rattle.c_ast.specs.Formed.{IsProgram};
+    ghost use Rattle.c_ast.specs.Function.{IsFunction, program_of};
     ghost use Rattle.c_ast.specs.Scope.{IsPlace, IsSetBefore, AreInScope};
 
     /// What is set in front of the place: at the entry nothing.
     fn set_before_place(&self, alloc: Global, place: Place) -> Result<Items<u32>, AllocError>
-        requires program { IsProgram (program_of self.now) }
-        requires place { IsPlace (program_of self.now) place }
-        ensures { IfOk result (λ found. IsSetBefore (program_of self.now) place found) }
+        requires { IsPlace (program_of self.now) place }
+        ensures found { IfOk result (λ found. IsSetBefore (program_of self.now) place found) }
+        ensures formed { IsFunction self.now }
     {
+        let body = self.body();
         match place {
             Place::Mark(mark) => {
-                let found = set_before(alloc, self.body(), mark)?;
+                let found = set_before(alloc, body, mark)?;
                 Ok(found.unwrap())
             }
             Place::Entry | Place::Exit => Ok(Items::new(alloc)),
@@ -127,8 +127,7 @@ impl Func {
 
     /// The variables in scope at a place, by rising number. The place is the entry or one of the function's marks.
     pub fn scope(&self, alloc: Global, place: Place) -> Result<Vec<u32>, AllocError>
-        requires program { IsProgram (program_of self.now) }
-        requires place { IsPlace (program_of self.now) place }
+        requires { IsPlace (program_of self.now) place }
         ensures { IfOk result (λ variables. AreInScope (program_of self.now) place variables.items) }
     {
         let before = self.set_before_place(alloc, place)?;

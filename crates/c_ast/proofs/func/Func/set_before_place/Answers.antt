@@ -7,10 +7,10 @@ use Rattle.c_ast.proofs.func.Func.set_before_place.Goals as goal
 
 pub unwrap-requires : goal.unwrap-requires
 unwrap-requires c =
-    let found = c.in_ok-found-in-Mark.ensures ∙ ap (λ b. set_before c.in-Mark.mark (statements_of b)) c.body.ensures.body in
-    before_some (program_of c.args.self.now) c.requires.program c.in-Mark.mark c.args.place c.in-Mark.is c.requires.place c.in_ok-found-in-Mark.found found
+    let found = c.in_ok-found-in-Mark.ensures ∙ ap (λ b. set_before c.in-Mark.mark (statements_of b)) c.body-body.ensures.body in
+    before_some (program_of c.args.self.now) c.body-body.ensures.formed c.in-Mark.mark c.args.place c.in-Mark.is c.requires c.in_ok-found-in-Mark.found found
 
-pub returns-in_ok-found-in-Mark : goal.returns-in_ok-found-in-Mark
-returns-in_ok-found-in-Mark c =
-    let found = c.in_ok-found-in-Mark.ensures ∙ ap (λ b. set_before c.in-Mark.mark (statements_of b)) c.body.ensures.body in
-    set_before_mark (program_of c.args.self.now) c.requires.program c.in-Mark.mark c.args.place c.in-Mark.is c.unwrap.result (sym c.unwrap.ensures ∙ found)
+pub returns-in_ok-found-in-Mark-clause-found : goal.returns-in_ok-found-in-Mark-clause-found
+returns-in_ok-found-in-Mark-clause-found c =
+    let found = c.in_ok-found-in-Mark.ensures ∙ ap (λ b. set_before c.in-Mark.mark (statements_of b)) c.body-body.ensures.body in
+    set_before_mark (program_of c.args.self.now) c.body-body.ensures.formed c.in-Mark.mark c.args.place c.in-Mark.is c.unwrap.result (sym c.unwrap.ensures ∙ found)
