@@ -11,3 +11,4 @@ pub mod Steps
 pub mod InScope
 pub mod Environments
 pub mod Interpreting
+pub mod RunSamples

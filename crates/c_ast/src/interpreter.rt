@@ -287,15 +287,16 @@ pub fn interpret(
     requires inputs { length inputs.now ≡ func.now.params }
     ensures { IfOk result (λ outcome. outcome ≡ outcome_within steps (program_of func.now) inputs.now) }
 {
-    let mut environment = first_environment(alloc, func.vars().len(), inputs)?;
+    let mut values = first_environment(alloc, func.vars().len(), inputs)?;
+    let environment = values.as_mut_slice();
     let mut work = VecDeque::new(alloc);
     put(&mut work, Item::Run(func.body()))?;
     let mut events = Items::new(alloc);
     for _taken in 0..steps {
-        match step(&mut work, &mut environment)? {
+        match step(&mut work, environment)? {
             Next::Goes => {}
             Next::Passes(mark) => {
-                let event = event(alloc, func, mark, &environment)?;
+                let event = event(alloc, func, mark, environment)?;
                 events.push(event)?;
             }
             Next::Ends(result) => return Ok(Outcome::Returned(Trace { events, result })),

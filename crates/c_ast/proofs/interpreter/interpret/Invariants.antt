@@ -4,6 +4,6 @@ use Rattle.c_ast.specs.Interpreted.{outcome_within}
 use Rattle.c_ast.proofs.Interpreting.{Interprets}
 use Rattle.c_ast.proofs.interpreter.interpret.Given as goal
 
-abbrev pub invariant-loop-_taken : goal.invariant-loop-_taken
-invariant-loop-_taken l =
-    Interprets (program_of l.func) (outcome_within l.steps (program_of l.func) l.inputs) (l._taken-end - l._taken) l.events l.work.items l.environment.items
+abbrev pub invariant-loop-taken : goal.invariant-loop-taken
+invariant-loop-taken l =
+    Interprets (program_of l.func) (outcome_within l.steps (program_of l.func) l.inputs) (l.steps - l._taken) l.events l.work.items l.environment
