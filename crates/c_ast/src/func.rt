@@ -1,12 +1,11 @@
 //! A function whose names are resolved. Its variables are numbered from 0: the parameters come first, then the
 //! declarations in the order of the source. `specs/Function.antt` says which parts make a function.
-ghost use Rattle.std.specs.Prelude.{◌≡◌, ◌↔◌, false, List, ℤ, length, MatchOption, IfSome, IfOk, IsTrue};
+ghost use Rattle.std.specs.Prelude.{◌≡◌, ◌↔◌, List, ℤ, length, MatchOption, IfSome, IfOk, IsTrue};
 ghost use Rattle.c_ast.specs.declared.expr.Expr.{Expr};
-ghost use Rattle.c_ast.specs.Narrow.{all_narrow};
 
 use crate::copy::{copy_stmts, copy_vars};
 use crate::same::{same_stmts, same_vars};
-use crate::{Expr, Name, Stmt, value_of};
+use crate::{Expr, Name, Stmt};
 use sqlite_items::Items;
 use std::alloc::{AllocError, Global};
 use std::marker::Model;
@@ -108,20 +107,6 @@ impl Func {
             → (Returns (program_of self.now) inputs value ↔ (value ≡ eval (expression_of e.now) inputs))) }
     {
         self.one_return()
-    }
-
-    /// What the function returns where the parameters have these values and its body is one `return`. `None` where it
-    /// is not, or where a part of its expression has a value of 2^100 or more in size.
-    pub fn result(&self, inputs: &[i128]) -> Option<i128>
-        requires { length inputs.now ≡ self.now.params }
-        ensures { MatchOption result
-            ((e : Expr) → ReturnsOne self.now e → all_narrow (expression_of e) inputs.now ≡ false)
-            (Returns (program_of self.now) inputs.now) }
-    {
-        match self.returned() {
-            Some(expr) => value_of(expr, inputs),
-            None => None,
-        }
     }
 
     /// Whether all is equal. Takes no memory.

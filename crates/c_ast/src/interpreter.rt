@@ -4,7 +4,6 @@ ghost use Rattle.std.specs.Prelude.{◌≡◌, ◌≤◌, [], ◌∷◌, if◌th
 ghost use Rattle.c_ast.specs.View.{statements_of};
 ghost use Rattle.c_ast.specs.Value.{is_nonzero};
 ghost use Rattle.c_ast.specs.Step.{Run, Tail, entered, to_tail, first_variables, spread};
-ghost use Rattle.c_ast.specs.Formed.{IsProgram};
 ghost use Rattle.c_ast.specs.Function.{program_of};
 ghost use Rattle.c_ast.specs.Scope.{IsPlace};
 ghost use Rattle.c_ast.specs.Interpreted.{IsEvent, outcome_within};
@@ -263,7 +262,6 @@ fn event(
     mark: u32,
     environment: &[i128],
 ) -> Result<Event, AllocError>
-    requires program { IsProgram (program_of func.now) }
     requires place { IsPlace (program_of func.now) (Place.Mark mark) }
     requires variables { length environment.now ≡ length func.now.vars }
     ensures { IfOk result (IsEvent (program_of func.now) mark environment.now) }
@@ -283,14 +281,14 @@ pub fn interpret(
     inputs: &[i128],
     steps: u32,
 ) -> Result<Outcome, AllocError>
-    requires program { IsProgram (program_of func.now) }
-    requires inputs { length inputs.now ≡ func.now.params }
+    requires { length inputs.now ≡ func.now.params }
     ensures { IfOk result (λ outcome. outcome ≡ outcome_within steps (program_of func.now) inputs.now) }
 {
+    let body = func.body();
     let mut values = first_environment(alloc, func.vars().len(), inputs)?;
     let environment = values.as_mut_slice();
     let mut work = VecDeque::new(alloc);
-    put(&mut work, Item::Run(func.body()))?;
+    put(&mut work, Item::Run(body))?;
     let mut events = Items::new(alloc);
     for _taken in 0..steps {
         match step(&mut work, environment)? {

@@ -18,13 +18,13 @@ loop-taken-init c =
     let f = program_of c.args.func.now in
     let environment : c.as_mut_slice-environment.result.now ≡ spread (first_variables c.args.func.now.params) (length c.args.func.now.vars) c.args.inputs.now =
         c.as_mut_slice-environment.ensures.value ∙ c.in_ok-values.ensures
-        ∙ ap (λ n. spread (first_variables n) (length c.vars.result.now) c.args.inputs.now) c.requires.inputs
+        ∙ ap (λ n. spread (first_variables n) (length c.vars.result.now) c.args.inputs.now) c.requires
         ∙ ap (λ vs. spread (first_variables c.args.func.now.params) (length vs) c.args.inputs.now) c.vars.ensures in
     let work : work_of c.put.new.work.items ≡ Run [] (statements_of c.args.func.now.body) ∷ [] =
-        c.in_ok-put.ensures ∙ ap (λ b. Run [] (statements_of b) ∷ work_of c.new-work.result.items) c.body.ensures.body
+        c.in_ok-put.ensures ∙ ap (λ b. Run [] (statements_of b) ∷ work_of c.new-work.result.items) c.body-body.ensures.body
         ∙ ap (λ l. Run [] (statements_of c.args.func.now.body) ∷ work_of l) c.new-work.ensures.items in
     rw c.new-events.ensures
-    (begins f c.requires.program c.args.inputs.now c.args.steps (c.args.steps - 0) c.put.new.work.items c.as_mut_slice-environment.result.now (omega arith) work environment)
+    (begins f c.body-body.ensures.formed c.args.inputs.now c.args.steps (c.args.steps - 0) c.put.new.work.items c.as_mut_slice-environment.result.now (omega arith) work environment)
 
 pub step-requires : goal.step-requires
 step-requires c =
