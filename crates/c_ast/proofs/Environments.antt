@@ -6,7 +6,7 @@ use Rattle.c_ast.specs.declared.place.Place.TheVariants as place
 use Rattle.c_ast.specs.Tree.{Program}
 use Rattle.c_ast.specs.Segment.{GoesOnFrom}
 use Rattle.c_ast.specs.Interpreted.{IsEvent}
-use Rattle.c_ast.specs.Step.{Work, scope_of, Scope, is_in, first_variables, with_value, values_from, values_in, spread_one, spread_from, spread}
+use Rattle.c_ast.specs.Step.{Work, scope_of, Scope, is_in, first_variables, with_value, values_from, values_in, spread_from, spread}
 use Rattle.c_ast.specs.Scope.{with_variable, variables_from, variables_in, AreInScope}
 use Rattle.c_ast.proofs.InScope.{is_in-first_variables}
 
@@ -41,8 +41,10 @@ inputs_none inputs n = record { is = (let e : n - 0 ≡ n = omega arith in ap (�
 pub inputs_one : (inputs : List ℤ) (n x next : ℕ) (values : List ℤ) (value : ℤ) → next ≡ suc x → x < n → value ≡ get_or inputs x (pos 0) → ListsInputs inputs n x values → ListsInputs inputs n next (values ++ value ∷ [])
 inputs_one inputs n x next values value next_is below value_is lists =
     let e : n - x ≡ suc (n - suc x) = omega arith in
-    record { is = rw (next_is, value_is) (append_assoc values (get_or inputs x (pos 0) ∷ []) (spread_from (first_variables (length inputs)) (suc x) (n - suc x) (drop (suc x) inputs))
-        ∙ ap (λ (z : List ℤ). values ++ z) (sym (ap (λ (m : ℕ). spread_from (first_variables (length inputs)) x m (drop x inputs)) e ∙ spread_from-input inputs x (n - suc x))) ∙ lists.is) }
+    record {
+      is = rw (next_is, value_is) (append_assoc values (get_or inputs x (pos 0) ∷ []) (spread_from (first_variables (length inputs)) (suc x) (n - suc x) (drop (suc x) inputs))
+          ∙ ap (λ (z : List ℤ). values ++ z) (sym (ap (λ (m : ℕ). spread_from (first_variables (length inputs)) x m (drop x inputs)) e ∙ spread_from-input inputs x (n - suc x))) ∙ lists.is);
+    }
 
 pub inputs_all : (inputs : List ℤ) (n x : ℕ) (values : List ℤ) → n ≤ x → ListsInputs inputs n x values → values ≡ spread (first_variables (length inputs)) n inputs
 inputs_all inputs n x values over lists =
@@ -93,7 +95,7 @@ pub event_is : (f : Program) (mark : ℕ) (env : List ℤ) (variables listed : L
 event_is f mark env variables listed k values len scope same all values_is = record {
   mark_is = refl;
   values_are = λ work follows.
-    let is : listed ≡ variables_in (scope_of work) (length env) = same ∙ scope work follows ∙ ap (variables_in (scope_of work)) (sym len) in
-    let whole : take k listed ≡ listed = take_all k listed all in
-    values_is ∙ ap (map (λ (y : ℕ). get_or env y (pos 0))) (whole ∙ is) ∙ values_in-listed (scope_of work) env;
+      let is : listed ≡ variables_in (scope_of work) (length env) = same ∙ scope work follows ∙ ap (variables_in (scope_of work)) (sym len) in
+      let whole : take k listed ≡ listed = take_all k listed all in
+      values_is ∙ ap (map (λ (y : ℕ). get_or env y (pos 0))) (whole ∙ is) ∙ values_in-listed (scope_of work) env;
 }

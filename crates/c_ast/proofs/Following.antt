@@ -1,16 +1,15 @@
 -- The work right after a mark, found by a walk over the tree; where marks stand once it is the only one, so segments are
 -- determined.
-use Rattle.std.proofs.Common.{◌≡◌, ℕ, zero, suc, ◌≤◌, Bool, true, false, eqb, ◌⊎◌, inl, inr, List, [], ◌∷◌, Option, Some, None, ℤ, refl, sym, ap, ◌∙◌, subst, arith}
+use Rattle.std.proofs.Common.{◌≡◌, ℕ, ◌≤◌, Bool, true, false, eqb, ◌⊎◌, inl, inr, List, [], ◌∷◌, Option, Some, None, ℤ, refl, sym, ap, ◌∙◌, subst, arith}
 use Rattle.std.proofs.lemmas.Bool.{eqb-true, eq-eqb}
 use Rattle.c_ast.specs.declared.place.Place.{Place}
 use Rattle.c_ast.specs.declared.place.Place.TheVariants as place
 use Rattle.c_ast.specs.Tree.{Statements, Nil, Set, If, Loop, Break, Continue, Return, Mark, Block, Program}
-use Rattle.c_ast.specs.Step.{Scope, LoopParts, Run, Test, Cond, Tail, Work, scope_of, first_variables, Next, step, spread, seen_next, seen}
-use Rattle.c_ast.specs.Returns.{always}
-use Rattle.c_ast.specs.Segment.{StandsIn, Follows, GoesOnFrom, at_mark, at_exit, met_within, IsSegment}
+use Rattle.c_ast.specs.Step.{Scope, LoopParts, Run, Test, Cond, Tail, Work, scope_of, first_variables, spread}
+use Rattle.c_ast.specs.Segment.{StandsIn, Follows, at_mark, at_exit, met_within}
 use Rattle.c_ast.specs.Formed.{is_mark, one_if, marks, IsProgram}
 use Rattle.c_ast.specs.Laws.{WorkIsDetermined, NextPlaceIsDetermined}
-use Rattle.c_ast.proofs.Runs.{Agree, KeepsAgreement, seen_agree}
+use Rattle.c_ast.proofs.Runs.{KeepsAgreement, seen_agree}
 
 -- ---- the walk
 

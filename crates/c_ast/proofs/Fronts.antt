@@ -1,5 +1,5 @@
 -- What each kind of statement puts in front of the rest of its list.
-use Rattle.std.proofs.Common.{◌≡◌, ℕ, Bool, List, [], ◌∷◌, Option, refl, ap, ◌∙◌}
+use Rattle.std.proofs.Common.{◌≡◌, ℕ, Bool, List, Option, ap, ◌∙◌}
 use Rattle.c_ast.specs.Tree as tree
 use Rattle.c_ast.specs.Tree.{Statements}
 use Rattle.c_ast.specs.View.{expression_of, statement_level, put_in_front, statements_of}

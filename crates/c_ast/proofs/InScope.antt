@@ -1,13 +1,13 @@
 -- The variables that are set in front of a mark, with the parameters, are those in scope there.
-use Rattle.std.proofs.Common.{◌≡◌, ℕ, zero, suc, ◌+◌, ◌-◌, ◌<◌, ◌≤◌, Bool, true, false, ◌||◌, eqb, nat_lt, IsTrue, List, [], ◌∷◌, ◌++◌, Option, Some, None, IsSome, refl, sym, ap, ◌∙◌, subst, arith, append_assoc, append-nil}
+use Rattle.std.proofs.Common.{◌≡◌, ℕ, zero, suc, ◌-◌, ◌<◌, ◌≤◌, Bool, true, false, ◌||◌, eqb, nat_lt, List, [], ◌∷◌, ◌++◌, Option, Some, None, IsSome, refl, sym, ap, ◌∙◌, subst, arith, append_assoc, append-nil}
 use Rattle.std.specs.Option.{option_or}
 use Rattle.std.proofs.lemmas.Bool.Decides.{nat_tests}
 use Rattle.c_ast.specs.declared.place.Place.{Place}
 use Rattle.c_ast.specs.declared.place.Place.TheVariants as place
 use Rattle.c_ast.specs.Tree.{Statements, Nil, Set, If, Loop, Break, Continue, Return, Mark, Block, Program}
-use Rattle.c_ast.specs.Step.{Scope, is_in, first_variables, LoopParts, Run, Test, Cond, Tail, Work, scope_of}
-use Rattle.c_ast.specs.Segment.{StandsIn, Follows, GoesOnFrom}
-use Rattle.c_ast.specs.Formed.{is_mark, marks, IsProgram}
+use Rattle.c_ast.specs.Step.{Scope, is_in, first_variables, Run, Work, scope_of}
+use Rattle.c_ast.specs.Segment.{Follows, GoesOnFrom}
+use Rattle.c_ast.specs.Formed.{is_mark, IsProgram}
 use Rattle.c_ast.specs.Scope.{IsPlace, with_variable, variables_from, variables_in, AreInScope, with_set, none_before, set_before, IsSetBefore}
 use Rattle.c_ast.proofs.Following.{or_else, work_if, work_after, stands_once}
 
@@ -62,7 +62,7 @@ found_before s work (Some v) (Some before) is h = let same : v ≡ work = cc in 
 pub is_before : (f : Program) → IsProgram f → (mark : ℕ) (work : Work) → Follows f mark work → IsBefore f mark work
 is_before f is mark work follows =
     let b = found_before (first_variables f.params) work (work_after (first_variables f.params) f.body [] mark) (set_before mark f.body)
-        (stands_once f.body (first_variables f.params) [] mark work (is.marked_once mark) follows) (agrees f.body (first_variables f.params) [] mark) in
+    (stands_once f.body (first_variables f.params) [] mark work (is.marked_once mark) follows) (agrees f.body (first_variables f.params) [] mark) in
     record { before = b.0; found = b.1; scope = b.2 }
 
 pub before_some : (f : Program) → IsProgram f → (mark : ℕ) (p : Place) → p ≡ place.Mark mark → IsPlace f p → (found : Option Scope) → found ≡ set_before mark f.body → IsSome found

@@ -1,11 +1,9 @@
 -- The interpreter's steps, one after another, are those that the observer sees.
-use Rattle.std.proofs.Common.{◌≡◌, ℕ, zero, suc, ◌+◌, ◌<◌, ◌≤◌, Bool, true, false, cond, eqb, ◌||◌, List, [], ◌∷◌, ◌++◌, length, Option, Some, None, ℤ, pos, refl, sym, ap, ◌∙◌, subst, arith, append_assoc, append-nil, slice_set}
+use Rattle.std.proofs.Common.{◌≡◌, ℕ, zero, suc, ◌<◌, ◌≤◌, Bool, true, false, cond, eqb, ◌||◌, List, [], ◌∷◌, ◌++◌, length, Option, Some, None, ℤ, refl, sym, ap, ◌∙◌, subst, arith, append_assoc, append-nil, slice_set}
 use Rattle.std.proofs.lemmas.Bool.{eqb-true}
 use Rattle.c_ast.specs.declared.place.Place.TheVariants as place
 use Rattle.c_ast.specs.declared.trace.Event.{Event}
-use Rattle.c_ast.specs.declared.trace.Trace.{Trace}
 use Rattle.c_ast.specs.declared.interpreter.Item.{Item}
-use Rattle.c_ast.specs.declared.interpreter.Next.{Next}
 use Rattle.c_ast.specs.declared.interpreter.Next.TheVariants as next
 use Rattle.c_ast.specs.declared.interpreter.Outcome.{Outcome}
 use Rattle.c_ast.specs.declared.interpreter.Outcome.TheVariants as outcome
@@ -15,8 +13,8 @@ use Rattle.c_ast.specs.Step as run
 use Rattle.c_ast.specs.Step.{Scope, is_in, first_variables, LoopParts, Run, Test, Tail, Work, scope_of, values_in, past_tail, to_tail, tested, entered, turned, step, evaluated, start, spread, seen, seen_next}
 use Rattle.c_ast.specs.Segment.{Follows}
 use Rattle.c_ast.specs.Formed.{IsOver, IsSet, AreFormed, IsProgram}
-use Rattle.c_ast.specs.Within.{AreWithin, IsLoopWithin, IsItemWithin, IsWorkWithin}
-use Rattle.c_ast.specs.Shown.{work_of, bare_item, bare, bare_next, evaluates_narrow, TakesStep}
+use Rattle.c_ast.specs.Within.{AreWithin, IsLoopWithin, IsWorkWithin}
+use Rattle.c_ast.specs.Shown.{work_of, bare, bare_next, evaluates_narrow, TakesStep}
 use Rattle.c_ast.specs.Scope.{IsPlace}
 use Rattle.c_ast.specs.Interpreted.{with_first, at_event, returned, interpreted, or_cut_off, outcome_within, IsEvent}
 use Rattle.c_ast.proofs.Places.{Placed, PlacedNext, placed_step, placed_start, HasLength, length_step, spread-length}
@@ -314,7 +312,7 @@ pub passed_on : (f : Program) (o : Outcome) (left : ℕ) (events : List Event) (
 passed_on f o left events mark items env event p is =
     let values : event.values ≡ values_in (scope_of p.work) env = is.values_are p.work p.follows in
     let event_is : event ≡ record { mark = mark; values = values_in (scope_of p.work) env } =
-        ap (λ (j : ℕ). record { mark = j; values = event.values }) is.mark_is ∙ ap (λ (z : List ℤ). record { mark = mark; values = z }) values in
+    ap (λ (j : ℕ). record { mark = j; values = event.values }) is.mark_is ∙ ap (λ (z : List ℤ). record { mark = mark; values = z }) values in
     record {
       work = p.work;
       bare_is = p.bare_is;

@@ -1,13 +1,13 @@
 -- From every place the next one is met: a measure on the work falls at each step that passes no mark. What follows a mark
 -- does not count, so a loop whose body begins with one costs no more than the way to it.
-use Rattle.std.proofs.Common.{◌≡◌, ℕ, zero, suc, ◌+◌, ◌<◌, ◌≤◌, Bool, true, false, cond, inl, inr, List, [], ◌∷◌, Option, Some, None, ℤ, refl, sym, ap, ◌∙◌, arith}
+use Rattle.std.proofs.Common.{◌≡◌, ℕ, zero, suc, ◌+◌, ◌<◌, Bool, true, false, cond, inl, inr, List, [], ◌∷◌, Option, Some, None, ℤ, refl, ap, arith}
 use Rattle.c_ast.specs.declared.place.Place.{Place}
 use Rattle.c_ast.specs.declared.place.Place.TheVariants as place
 use Rattle.c_ast.specs.Tree.{Expression, Statements, Nil, Set, If, Loop, Break, Continue, Return, Mark, Block, Program}
 use Rattle.c_ast.specs.Value.{eval, is_nonzero}
-use Rattle.c_ast.specs.Step.{Scope, LoopParts, Item, Run, Test, Cond, Tail, Work, scope_of, values_in, first_variables, Next, Goes, Passes, Ends, past_tail, to_tail, tested, entered, turned, step, start, spread, seen_next, seen}
+use Rattle.c_ast.specs.Step.{Scope, LoopParts, Item, Run, Test, Cond, Tail, Work, scope_of, values_in, first_variables, Next, Goes, Passes, Ends, past_tail, to_tail, tested, entered, turned, step, spread, seen_next, seen}
 use Rattle.c_ast.specs.Returns.{always}
-use Rattle.c_ast.specs.Segment.{StandsIn, Follows, GoesOnFrom, at_mark, at_exit, met_within, IsSegment}
+use Rattle.c_ast.specs.Segment.{StandsIn, GoesOnFrom, at_mark, at_exit, met_within}
 use Rattle.c_ast.specs.Formed.{BeginsWithMark, PassesMark, AreFormed, IsProgram}
 use Rattle.c_ast.specs.Laws.{NextPlaceExists}
 

@@ -1,17 +1,15 @@
 -- The marks ahead of a run stand in its function, and the values with which it meets a place fit that place.
-use Rattle.std.proofs.Common.{◌≡◌, ℕ, zero, suc, ◌+◌, ◌≤◌, Bool, true, false, cond, ◌⊎◌, inl, inr, List, [], ◌∷◌, length, All, Option, Some, None, ℤ, refl, sym, ap, ◌∙◌, subst, arith, length-set}
+use Rattle.std.proofs.Common.{◌≡◌, ℕ, zero, suc, ◌≤◌, Bool, true, false, cond, ◌⊎◌, inl, inr, List, [], ◌∷◌, length, All, Option, Some, None, ℤ, refl, sym, ap, ◌∙◌, subst, arith, length-set}
 use Rattle.std.proofs.lemmas.List.Elements.{All-cons}
 use Rattle.c_ast.specs.declared.place.Place.{Place}
 use Rattle.c_ast.specs.declared.place.Place.TheVariants as place
-use Rattle.c_ast.specs.declared.trace.Event.{Event}
 use Rattle.c_ast.specs.declared.trace.Trace.{Trace}
 use Rattle.c_ast.specs.Tree.{Expression, Statements, Nil, Set, If, Loop, Break, Continue, Return, Mark, Block, Program}
 use Rattle.c_ast.specs.Value.{eval, is_nonzero}
 use Rattle.c_ast.specs.Step.{Scope, is_in, LoopParts, Item, Run, Test, Cond, Tail, Work, scope_of, values_in, values_from, with_value, first_variables, Next, Goes, Passes, Ends, past_tail, to_tail, tested, entered, turned, step, start, spread, spread_from, spread_one, seen_next, seen}
 use Rattle.c_ast.specs.Returns.{always}
-use Rattle.c_ast.specs.Trace.{IsTrace, with_event, no_event, trace_within}
-use Rattle.c_ast.specs.Segment.{StandsIn, Follows, GoesOnFrom, FitsPlace, at_mark, at_exit, met_within, IsSegment}
-use Rattle.c_ast.specs.Formed.{IsProgram}
+use Rattle.c_ast.specs.Trace.{with_event, no_event}
+use Rattle.c_ast.specs.Segment.{StandsIn, Follows, GoesOnFrom, FitsPlace, at_mark, at_exit, met_within}
 use Rattle.c_ast.specs.Laws.{MeetsFittingValues, FitsEvent, TraceFits}
 
 -- ---- the marks that stand in a work list
@@ -158,7 +156,6 @@ stands_more (Block a c) s w k v (inr h) j u p = elim (stands_more c s w k v h j 
 pub placed_after : (f : Program) (k : ℕ) (v : Work) → Follows f k v → Placed f v
 placed_after f k v h = record { by = λ j u p. elim (stands_more f.body (first_variables f.params) [] k v h j u p) [ inl q ↦ q | inr q ↦ absurd q ] }
 
-
 -- ---- how many values are in scope
 
 values_from-length : (s : Scope) (i : ℕ) (a b : List ℤ) → length a ≡ length b → length (values_from s i a) ≡ length (values_from s i b)
@@ -273,7 +270,7 @@ trace_fitting f few (suc n) marks w env trace placed len ran = on (step w env) (
     on (Passes k w env) placed len ran later =
         let b = before marks k (values_in (scope_of w) env) (seen always None with_event no_event n (suc marks) w env) trace ran in
         let fits : FitsEvent f (record { mark = k; values = values_in (scope_of w) env }) =
-            record { fits = values_fit f k w env placed.1 len; few = few_values f (values_from-few (scope_of w) 0 env) len few } in
+        record { fits = values_fit f k w env placed.1 len; few = few_values f (values_from-few (scope_of w) 0 env) len few } in
         rw b.2 (All-cons (FitsEvent f) _ b.0.events fits (later (suc marks) w env b.0 placed.0 len b.1))
     on (Ends v) placed len ran later = let same : record { events = []; result = v } ≡ trace = cc in rw (← same) (λ i default below. absurd (omega arith))
 

@@ -1,8 +1,8 @@
 -- What comes of small functions, worked out by hand from the meaning of C's statements. The interpreter answers the same.
-use Rattle.std.proofs.Common.{◌≡◌, true, false, [], ◌∷◌, Some, None, pos, negsuc, refl}
+use Rattle.std.proofs.Common.{◌≡◌, true, false, [], ◌∷◌, Some, pos, negsuc, refl}
 use Rattle.c_ast.specs.declared.expr.BinOp.TheVariants.{Add, Mul, Less, Equal}
 use Rattle.c_ast.specs.declared.interpreter.Outcome.TheVariants.{Returned, Wide, CutOff}
-use Rattle.c_ast.specs.Tree.{Expression, Num, Var, Un, Bin, Cond, Statements, Nil, Set, If, Loop, Break, Continue, Return, Mark, Block, Program}
+use Rattle.c_ast.specs.Tree.{Num, Var, Bin, Nil, Set, If, Loop, Break, Continue, Return, Block, Program}
 use Rattle.c_ast.specs.Interpreted.{outcome_within}
 
 -- int f(int n) { int i = 0; int s = 0; while (__mark(42) & (i < n)) { s = s + i; i = i + 1; } return s; }
@@ -11,14 +11,14 @@ sums = record {
   params = 1;
   vars = 3;
   body =
-    Set 1 (Num (pos 0)) (Set 2 (Num (pos 0))
-    (Loop (Some 42) (Bin Less (Var 1) (Var 0)) (Set 2 (Bin Add (Var 2) (Var 1)) (Set 1 (Bin Add (Var 1) (Num (pos 1))) Nil)) Nil true (Return (Var 2) Nil)));
+      Set 1 (Num (pos 0)) (Set 2 (Num (pos 0))
+      (Loop (Some 42) (Bin Less (Var 1) (Var 0)) (Set 2 (Bin Add (Var 2) (Var 1)) (Set 1 (Bin Add (Var 1) (Num (pos 1))) Nil)) Nil true (Return (Var 2) Nil)));
 }
 
 sums_two : outcome_within 20 sums (pos 2 ∷ []) ≡ Returned (record {
   events =
-    record { mark = 42; values = pos 2 ∷ pos 0 ∷ pos 0 ∷ [] } ∷ record { mark = 42; values = pos 2 ∷ pos 1 ∷ pos 0 ∷ [] }
-    ∷ record { mark = 42; values = pos 2 ∷ pos 2 ∷ pos 1 ∷ [] } ∷ [];
+      record { mark = 42; values = pos 2 ∷ pos 0 ∷ pos 0 ∷ [] } ∷ record { mark = 42; values = pos 2 ∷ pos 1 ∷ pos 0 ∷ [] }
+      ∷ record { mark = 42; values = pos 2 ∷ pos 2 ∷ pos 1 ∷ [] } ∷ [];
   result = pos 1;
 })
 unfolding sums
@@ -35,16 +35,16 @@ skips = record {
   params = 1;
   vars = 3;
   body =
-    Set 1 (Num (pos 0)) (Block (Set 2 (Num (pos 0)) (Loop (Some 7) (Bin Less (Var 2) (Var 0))
-    (If (Bin Equal (Var 2) (Num (pos 1))) (Continue Nil) Nil (Set 1 (Bin Add (Var 1) (Var 2)) Nil))
-    (Set 2 (Bin Add (Var 2) (Num (pos 1))) Nil) true Nil)) (Return (Var 1) Nil));
+      Set 1 (Num (pos 0)) (Block (Set 2 (Num (pos 0)) (Loop (Some 7) (Bin Less (Var 2) (Var 0))
+      (If (Bin Equal (Var 2) (Num (pos 1))) (Continue Nil) Nil (Set 1 (Bin Add (Var 1) (Var 2)) Nil))
+      (Set 2 (Bin Add (Var 2) (Num (pos 1))) Nil) true Nil)) (Return (Var 1) Nil));
 }
 
 -- `continue` runs the third part
 skips_three : outcome_within 80 skips (pos 3 ∷ []) ≡ Returned (record {
   events =
-    record { mark = 7; values = pos 3 ∷ pos 0 ∷ pos 0 ∷ [] } ∷ record { mark = 7; values = pos 3 ∷ pos 0 ∷ pos 1 ∷ [] }
-    ∷ record { mark = 7; values = pos 3 ∷ pos 0 ∷ pos 2 ∷ [] } ∷ record { mark = 7; values = pos 3 ∷ pos 2 ∷ pos 3 ∷ [] } ∷ [];
+      record { mark = 7; values = pos 3 ∷ pos 0 ∷ pos 0 ∷ [] } ∷ record { mark = 7; values = pos 3 ∷ pos 0 ∷ pos 1 ∷ [] }
+      ∷ record { mark = 7; values = pos 3 ∷ pos 0 ∷ pos 2 ∷ [] } ∷ record { mark = 7; values = pos 3 ∷ pos 2 ∷ pos 3 ∷ [] } ∷ [];
   result = pos 2;
 })
 unfolding skips
@@ -56,14 +56,14 @@ breaks = record {
   params = 1;
   vars = 2;
   body =
-    Set 1 (Num (pos 0)) (Loop (Some 1) (Bin Less (Var 1) (Var 0))
-    (Loop (Some 2) (Num (pos 1)) (Break Nil) Nil true (Set 1 (Bin Add (Var 1) (Num (pos 1))) Nil)) Nil true (Return (Var 1) Nil));
+      Set 1 (Num (pos 0)) (Loop (Some 1) (Bin Less (Var 1) (Var 0))
+      (Loop (Some 2) (Num (pos 1)) (Break Nil) Nil true (Set 1 (Bin Add (Var 1) (Num (pos 1))) Nil)) Nil true (Return (Var 1) Nil));
 }
 
 -- `break` leaves the inner loop alone
 breaks_one : outcome_within 40 breaks (pos 1 ∷ []) ≡ Returned (record {
   events =
-    record { mark = 1; values = pos 1 ∷ pos 0 ∷ [] } ∷ record { mark = 2; values = pos 1 ∷ pos 0 ∷ [] } ∷ record { mark = 1; values = pos 1 ∷ pos 1 ∷ [] } ∷ [];
+      record { mark = 1; values = pos 1 ∷ pos 0 ∷ [] } ∷ record { mark = 2; values = pos 1 ∷ pos 0 ∷ [] } ∷ record { mark = 1; values = pos 1 ∷ pos 1 ∷ [] } ∷ [];
   result = pos 1;
 })
 unfolding breaks
@@ -75,8 +75,8 @@ turns = record {
   params = 1;
   vars = 3;
   body =
-    Set 1 (Num (pos 0)) (Loop (Some 3) (Bin Less (Var 1) (Var 0))
-    (Set 2 (Num (pos 0)) (Set 2 (Bin Add (Var 2) (Num (pos 1))) (Set 1 (Bin Add (Var 1) (Var 2)) (If (Num (pos 1)) (Continue Nil) Nil (Set 1 (Num (pos 9)) Nil))))) Nil false Nil);
+      Set 1 (Num (pos 0)) (Loop (Some 3) (Bin Less (Var 1) (Var 0))
+      (Set 2 (Num (pos 0)) (Set 2 (Bin Add (Var 2) (Num (pos 1))) (Set 1 (Bin Add (Var 1) (Var 2)) (If (Num (pos 1)) (Continue Nil) Nil (Set 1 (Num (pos 9)) Nil))))) Nil false Nil);
 }
 
 -- The body of a `do` runs before its test, where a `continue` leads, and its variable is not in scope there; declared again

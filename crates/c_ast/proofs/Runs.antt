@@ -1,10 +1,9 @@
 -- What is seen of a run does not depend on the number of steps that are allowed, where they suffice.
-use Rattle.std.proofs.Common.{◌≡◌, ◌↔◌, ℕ, zero, suc, List, [], ◌∷◌, Option, Some, None, ℤ, refl, sym, ap, ◌∙◌}
+use Rattle.std.proofs.Common.{◌≡◌, ℕ, zero, suc, List, Option, Some, None, ℤ, refl, sym, ap, ◌∙◌}
 use Rattle.c_ast.specs.declared.trace.Trace.{Trace}
-use Rattle.c_ast.specs.Tree.{Program}
 use Rattle.c_ast.specs.Step.{Work, Next, Goes, Passes, Ends, step, scope_of, values_in, seen, seen_next, start, spread, first_variables}
-use Rattle.c_ast.specs.Returns.{Returns, always, no_mark, as_it_is, result_within}
-use Rattle.c_ast.specs.Trace.{IsTrace, with_event, no_event, trace_within}
+use Rattle.c_ast.specs.Returns.{always, no_mark, as_it_is}
+use Rattle.c_ast.specs.Trace.{with_event, no_event, trace_within}
 use Rattle.c_ast.specs.Laws.{ReturnsOnce, HasOneTrace, TraceReturns}
 
 -- ---- an observer that hands on what is seen later
@@ -82,8 +81,8 @@ pub trace_returns : TraceReturns
 trace_returns f inputs value =
     let env = spread (first_variables f.params) f.vars inputs in (
       λ returns.
-        let found = some_trace (trace_within returns.steps (start f) env) value (sym (result_seen returns.steps 0 0 (start f) env) ∙ returns.ends) in
-        (found.0, record { steps = returns.steps; ran = found.1 }, found.2),
+          let found = some_trace (trace_within returns.steps (start f) env) value (sym (result_seen returns.steps 0 0 (start f) env) ∙ returns.ends) in
+          (found.0, record { steps = returns.steps; ran = found.1 }, found.2),
       λ (trace, is, result).
-        record { steps = is.steps; ends = result_seen is.steps 0 0 (start f) env ∙ trace_result (trace_within is.steps (start f) env) trace is.ran ∙ ap Some result },
+          record { steps = is.steps; ends = result_seen is.steps 0 0 (start f) env ∙ trace_result (trace_within is.steps (start f) env) trace is.ran ∙ ap Some result },
     )

@@ -1,7 +1,7 @@
 -- The interpreter's steps, a kind at a time, over trees.
-use Rattle.std.proofs.Common.{◌≡◌, ℕ, zero, suc, ◌+◌, ◌≤◌, Bool, true, false, cond, List, [], ◌∷◌, length, get_or, take, drop, slice_set, ◌-◌, ◌<◌, take_all, Option, Some, None, ℤ, pos, refl, sym, ap, ◌∙◌, subst, arith}
+use Rattle.std.proofs.Common.{◌≡◌, ℕ, ◌≤◌, Bool, true, false, cond, List, [], ◌∷◌, length, get_or, take, drop, slice_set, ◌-◌, ◌<◌, take_all, Option, Some, None, ℤ, refl, sym, ap, ◌∙◌, subst, arith}
 use Rattle.c_ast.specs.declared.expr.Expr.{Expr}
-use Rattle.c_ast.specs.declared.stmt.Stmt.{Stmt, Set, If, Loop, Break, Continue, Return, Mark, Block}
+use Rattle.c_ast.specs.declared.stmt.Stmt.{Stmt, Set, If, Loop, Break, Continue, Mark, Block}
 use Rattle.c_ast.specs.declared.interpreter.Parts.{Parts}
 use Rattle.c_ast.specs.declared.interpreter.Item.{Item}
 use Rattle.c_ast.specs.declared.interpreter.Item.TheVariants as item
@@ -14,8 +14,8 @@ use Rattle.c_ast.specs.View.{expression_of, put_in_front, statements_of}
 use Rattle.c_ast.specs.Narrow.{all_narrow, only_if, narrow_value}
 use Rattle.c_ast.specs.Step as run
 use Rattle.c_ast.specs.Step.{LoopParts, Run, Test, Cond, Tail, Work, past_tail, to_tail, tested, entered, turned, step}
-use Rattle.c_ast.proofs.Fronts.{front-Set, front-If, front-Loop, front-Break, front-Continue, front-Return, front-Mark, front-Block}
-use Rattle.c_ast.specs.Shown.{loop_of, item_of, work_of, bare, bare_next, TakesStep, IsTested, with_tail, Cuts}
+use Rattle.c_ast.proofs.Fronts.{front-Set, front-If, front-Loop, front-Break, front-Continue, front-Mark, front-Block}
+use Rattle.c_ast.specs.Shown.{loop_of, item_of, work_of, bare, bare_next, TakesStep, IsTested, Cuts}
 
 -- ---- work that is bare already
 
@@ -135,8 +135,10 @@ takes-Test old others new loop mark env got is mark_is told put = along_work old
   where
     bared : Cond [] loop ∷ bare (work_of others) ≡ work_of new
     bared = ap (λ (z : Work). Cond [] loop ∷ z) (bare_work_of others).is ∙ sym put
+
     at : (mark : Option ℕ) → loop.mark ≡ mark → bare_next (step (Test [] loop ∷ work_of others) env) ≡ bare_next (tested mark (Cond [] loop ∷ work_of others) env)
     at mark mark_is = ap (λ (m : Option ℕ). bare_next (tested m (Cond [] loop ∷ work_of others) env)) mark_is
+
     on : (mark : Option ℕ) (got : Next) → loop.mark ≡ mark → IsTested mark got → TakesStep (Test [] loop ∷ work_of others) env got (work_of new) env
     on None next.Goes mark_is told = (refl, at None mark_is ∙ ap (λ (z : Work). run.Goes z env) bared)
     on None (next.Passes k) mark_is told = absurd told

@@ -1,5 +1,5 @@
 -- What the plain interpreter answers: the trace of a run of few steps and narrow values.
-use Rattle.std.specs.Prelude.{◌≡◌, ℕ, List, [], ◌∷◌, Option, Some, None, ℤ}
+use Rattle.std.specs.Prelude.{◌≡◌, ℕ, List, ◌∷◌, Option, Some, None, ℤ}
 use Rattle.c_ast.specs.declared.trace.Event.{Event}
 use Rattle.c_ast.specs.declared.interpreter.Outcome.{Outcome}
 use Rattle.c_ast.specs.declared.interpreter.Outcome.TheVariants as outcome

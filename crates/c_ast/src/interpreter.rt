@@ -85,7 +85,11 @@ fn turn<'a>(work: &mut VecDeque<Item<'a>>, parts: Parts<'a>) -> Result<(), Alloc
 }
 
 /// A loop is entered at its test, or at its body.
-fn enter<'a>(work: &mut VecDeque<Item<'a>>, parts: Parts<'a>, test_first: bool) -> Result<(), AllocError>
+fn enter<'a>(
+    work: &mut VecDeque<Item<'a>>,
+    parts: Parts<'a>,
+    test_first: bool,
+) -> Result<(), AllocError>
     ensures { OnOk result (work_of work.new.items ≡ entered test_first [] (loop_of parts.entry) (work_of work.old.items)) }
 {
     if test_first {
@@ -200,10 +204,7 @@ fn run_first<'a>(
 }
 
 /// A step of a run.
-fn step<'a>(
-    work: &mut VecDeque<Item<'a>>,
-    environment: &mut [i128],
-) -> Result<Next, AllocError>
+fn step<'a>(work: &mut VecDeque<Item<'a>>, environment: &mut [i128]) -> Result<Next, AllocError>
     requires { IsWorkWithin (length environment.old) (work_of work.old.items) }
     ensures { IfOk result (λ next. TakesStep
         (work_of work.old.items) environment.old next (work_of work.new.items) environment.new) }
@@ -256,12 +257,7 @@ fn first_environment(alloc: Global, vars: usize, inputs: &[i128]) -> Result<Vec<
 }
 
 /// The event of passing a mark with these values of all variables.
-fn event(
-    alloc: Global,
-    func: &Func,
-    mark: u32,
-    environment: &[i128],
-) -> Result<Event, AllocError>
+fn event(alloc: Global, func: &Func, mark: u32, environment: &[i128]) -> Result<Event, AllocError>
     requires place { IsPlace (program_of func.now) (Place.Mark mark) }
     requires variables { length environment.now ≡ length func.now.vars }
     ensures { IfOk result (IsEvent (program_of func.now) mark environment.now) }

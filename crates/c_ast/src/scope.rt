@@ -22,7 +22,11 @@ fn is_mark(own: &Option<u32>, mark: u32) -> bool
 fn none_before(alloc: Global, stands: bool) -> Option<Items<u32>>
     ensures { result ≡ none_before stands }
 {
-    if stands { Some(Items::new(alloc)) } else { None }
+    if stands {
+        Some(Items::new(alloc))
+    } else {
+        None
+    }
 }
 
 /// The variables that are set around the mark and in front of it, the newest first, where it stands in the statements.

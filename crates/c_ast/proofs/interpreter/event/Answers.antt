@@ -1,4 +1,4 @@
-use Rattle.std.proofs.Common.{ℕ, ◌<◌, length, slice_index_or, subst, sym}
+use Rattle.std.proofs.Common.{ℕ, ◌<◌, slice_index_or, subst, sym}
 use Rattle.c_ast.specs.declared.place.Place.TheVariants as place
 use Rattle.c_ast.specs.Function.{program_of}
 use Rattle.c_ast.proofs.Environments.{in_scope-below, event_is}

@@ -1,4 +1,4 @@
-use Rattle.std.proofs.Common.{◌≡◌, ◌++◌, ◌∷◌, [], ◌+◌, pos, get_or, arith, FitsSigned, to_z-of_z, rules}
+use Rattle.std.proofs.Common.{◌+◌, arith, FitsSigned, to_z-of_z, rules}
 use Rattle.std.specs.Int.{w128}
 use Rattle.c_ast.proofs.Environments.{inputs_one}
 use Rattle.c_ast.proofs.interpreter.first_environment.Goals as goal

@@ -1,7 +1,7 @@
 -- Each kind of statement takes the step that its tree takes.
-use Rattle.std.proofs.Common.{ℤ, ◌≡◌, ◌-◌, List, length, take, drop, to_z, of_z, to_z-of_z, FitsSigned, rules, refl, subst, sym}
+use Rattle.std.proofs.Common.{to_z-of_z, FitsSigned, rules}
 use Rattle.std.specs.Int.{w128}
-use Rattle.c_ast.specs.declared.stmt.Stmt.{Stmt, Set, If, Loop, Break, Continue, Return, Mark, Block}
+use Rattle.c_ast.specs.declared.stmt.Stmt.{Set, If, Loop, Break, Continue, Mark, Block}
 use Rattle.c_ast.proofs.Steps.{first_of, none_of, takes-Nil, takes-Set, takes-If, takes-Loop, takes-Break, takes-Continue, takes-Mark, takes-Block}
 use Rattle.c_ast.proofs.interpreter.run_first.Goals as goal
 

@@ -1,5 +1,5 @@
 -- Each kind of item takes the run's step.
-use Rattle.std.proofs.Common.{◌≡◌, ◌∷◌, true, false, ℤ, to_z-of_z, FitsSigned, rules, refl, sym, ◌∙◌}
+use Rattle.std.proofs.Common.{true, false, to_z-of_z, FitsSigned, rules, refl, sym, ◌∙◌}
 use Rattle.std.specs.Int.{w128}
 use Rattle.c_ast.specs.declared.interpreter.Item.TheVariants as item
 use Rattle.c_ast.specs.Shown.{loop_of, work_of}

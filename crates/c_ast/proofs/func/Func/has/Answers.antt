@@ -1,4 +1,4 @@
-use Rattle.std.proofs.Common.{ℕ, ◌≡◌, ◌∙◌, ap, nat_lt}
+use Rattle.std.proofs.Common.{ℕ, ◌∙◌, ap, nat_lt}
 use Rattle.c_ast.proofs.InScope.{has_then, has_else}
 use Rattle.c_ast.proofs.func.Func.has.Goals as goal
 

@@ -1,8 +1,8 @@
-use Rattle.std.proofs.Common.{◌∙◌, ◌≡◌, Some, ap, sym}
+use Rattle.std.proofs.Common.{◌∙◌, ap, sym}
 use Rattle.c_ast.specs.View.{statements_of}
 use Rattle.c_ast.specs.Scope.{set_before}
 use Rattle.c_ast.specs.Function.{program_of}
-use Rattle.c_ast.proofs.InScope.{before_some, set_before_mark, set_before_entry}
+use Rattle.c_ast.proofs.InScope.{before_some, set_before_mark}
 use Rattle.c_ast.proofs.func.Func.set_before_place.Goals as goal
 
 pub unwrap-requires : goal.unwrap-requires
