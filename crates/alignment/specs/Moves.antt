@@ -6,8 +6,8 @@ use Rattle.c_ast.specs.Tree.{Program}
 use Rattle.c_ast.specs.Segment.{IsSegment}
 use Rattle.alignment.specs.Counts.{counts_of, counts_at}
 
--- The side takes at most n segments, one after another, from the place `l` with the values `e`, and then stands at `l'`
--- with `e'`. It stops before at the exit, and where a segment that began at a mark ends at another place.
+-- The side takes n segments, one after another, from the place `l` with the values `e`, and then stands at `l'` with `e'`.
+-- It stops before that at the exit, and where a segment that began at a mark ends at another place.
 abbrev pub Takes : Program → ℕ → Place → List ℤ → Place → List ℤ → Type 0
 Takes f zero l e l' e' = (l' ≡ l) × (e' ≡ e)
 Takes f (suc n) place.Exit e l' e' = (l' ≡ place.Exit) × (e' ≡ e)

@@ -92,8 +92,9 @@ impl Alignment {
     /// Its counts p, q, a and b.
     pub fn counts(&self) -> (u32, u32, u32, u32)
         ensures counts { result ≡ counts_of self.now }
-        ensures small { (result.0 ≤ 2) × (result.1 ≤ 2) }
-        ensures positive { 0 < result.2 }
+        ensures few_first { result.0 ≤ 2 }
+        ensures few_second { result.1 ≤ 2 }
+        ensures some_at_marks { 0 < result.2 }
     {
         ROWS[self.number as usize - 1]
     }

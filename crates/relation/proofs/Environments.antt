@@ -39,7 +39,8 @@ pub agree_both : (n : ℕ) (scope : Scope) (a b c : List ℤ) → Agree n scope 
 agree_both n scope a b c first second = record { left = first.left; right = second.right; agree = λ x inside. first.agree x inside ∙ second.agree x inside }
 
 -- An expression over the variables in scope has one value in both.
-pub eval_agree : (e : Expression) (n : ℕ) (scope : Scope) (a b : List ℤ) → Agree n scope a b → IsOver scope e → eval e a ≡ eval e b
+pub eval_agree : (e : Expression) (n : ℕ) (scope : Scope) (a b : List ℤ) → Agree n scope a b → IsOver scope e
+    → eval e a ≡ eval e b
 eval_agree (Num z) n scope a b same over = refl
 eval_agree (Var x) n scope a b same over = same.agree x over
 eval_agree (Un op e) n scope a b same over = ap (unary_value op) (eval_agree e n scope a b same over)
@@ -62,14 +63,16 @@ set_both (u ∷ a) (w ∷ b) zero v long = refl
 set_both (u ∷ a) (w ∷ b) (suc x) v long = set_both a b x v (omega arith)
 
 -- The variable that takes a value in both is in scope from then on.
-pub agree_set : (n : ℕ) (scope : Scope) (a b : List ℤ) (x : ℕ) (v w : ℤ) → v ≡ w → Agree n scope a b → Agree n (x ∷ scope) (set a x v) (set b x w)
+pub agree_set : (n : ℕ) (scope : Scope) (a b : List ℤ) (x : ℕ) (v w : ℤ) → v ≡ w → Agree n scope a b
+    → Agree n (x ∷ scope) (set a x v) (set b x w)
 agree_set n scope a b x v w e same = subst (λ (z : ℤ). Agree n (x ∷ scope) (set a x v) (set b x z)) e (record {
   left = length-set a x v ∙ same.left;
   right = length-set b x v ∙ same.right;
   agree = λ y inside. at y (eqb x y) refl inside;
 })
   where
-    at : (y : ℕ) (t : Bool) → eqb x y ≡ t → (t || is_in scope y) ≡ true → get_or (set a x v) y (pos 0) ≡ get_or (set b x v) y (pos 0)
+    at : (y : ℕ) (t : Bool) → eqb x y ≡ t → (t || is_in scope y) ≡ true
+        → get_or (set a x v) y (pos 0) ≡ get_or (set b x v) y (pos 0)
     at y true is inside = subst (λ (k : ℕ). get_or (set a x v) k (pos 0) ≡ get_or (set b x v) k (pos 0)) (eqb-true x y is) (set_both a b x v (same.left ∙ sym same.right))
     at y false is inside =
         get_or-set_other a x y v (pos 0) (λ p. eqb-false x y is (sym p)) ∙ same.agree y inside
@@ -77,7 +80,8 @@ agree_set n scope a b x v w e same = subst (λ (z : ℤ). Agree n (x ∷ scope) 
 
 -- ---- the values in scope
 
-pub length-values_from : (scope : Scope) (i : ℕ) (a b : List ℤ) → length a ≡ length b → length (values_from scope i a) ≡ length (values_from scope i b)
+pub length-values_from : (scope : Scope) (i : ℕ) (a b : List ℤ) → length a ≡ length b
+    → length (values_from scope i a) ≡ length (values_from scope i b)
 length-values_from scope i [] [] long = refl
 length-values_from scope i [] (w ∷ b) long = cc
 length-values_from scope i (v ∷ a) [] long = cc

@@ -18,7 +18,7 @@ use Rattle.horn_clauses.specs.Node.{node}
 use Rattle.horn_clauses.specs.Family.{atoms_at, InFamily}
 use Rattle.relation.specs.Segments.{LeadsOut}
 use Rattle.relation.specs.Coupling.{ForcesEqualResults, IsCoupling}
-use Rattle.relation.proofs.Splitting.{returns_leads_out}
+use Rattle.relation.proofs.Splitting.{returns_leads_out, leads_from_exit}
 use Rattle.relation.proofs.Moving.{takes_some, some_moves}
 use Rattle.relation.proofs.Values.{equal_parameters_hold, forced}
 
@@ -28,11 +28,6 @@ leads_fits f l e zero result leads =
     let there : FitsPlace f place.Exit e = subst (λ (z : List ℤ). FitsPlace f place.Exit z) (sym leads.1) fits in
     subst (λ (z : Place). FitsPlace f z e) (sym leads.0) there
 leads_fits f l e (suc n) result leads = leads.0
-
--- No segment begins at the exit.
-leads_from_exit : (f : Program) (e : List ℤ) (n : ℕ) (result : ℤ) → LeadsOut f place.Exit e n result → e ≡ result ∷ []
-leads_from_exit f e zero result leads = leads.1
-leads_from_exit f e (suc n) result leads = absurd leads.3.from
 
 first_not_out : (l r : Place) → l ≢ place.Exit → node l r ≢ node place.Exit place.Exit
 first_not_out l r away same = away (ap (λ (n : Node). n.0) same)
@@ -48,7 +43,8 @@ decide_exits place.Exit place.Entry = inr (second_not_out place.Exit place.Entry
 decide_exits place.Exit (place.Mark k) = inr (second_not_out place.Exit (place.Mark k) (λ same. cc))
 decide_exits place.Exit place.Exit = inl (refl, refl)
 
-forced_by : (u v : ℤ) (atoms : Option (List Atom)) → IsSomeAnd atoms ForcesEqualResults → IsSomeAnd atoms (All (λ atom. AtomHolds atom (u ∷ v ∷ []))) → u ≡ v
+forced_by : (u v : ℤ) (atoms : Option (List Atom)) → IsSomeAnd atoms ForcesEqualResults
+    → IsSomeAnd atoms (All (λ atom. AtomHolds atom (u ∷ v ∷ []))) → u ≡ v
 forced_by u v None forces all = absurd forces
 forced_by u v (Some atoms) forces all = forced u v atoms forces all
 
@@ -66,7 +62,8 @@ module _ (f g : Program) (alignment : ℕ) (family : Family) (positive : 0 < (co
 
   -- Where the values at a node are in the family, and n segments at most are left of both runs, the results are equal.
   follow : (n : ℕ) (l r : Place) (d e : List ℤ) (i j : ℕ) → i + j ≤ n → LeadsOut f l d i u → LeadsOut g r e j v
-      → InFamily family (node l r) (d ++ e) → ((l ≡ place.Exit) × (r ≡ place.Exit)) ⊎ (node l r ≢ node place.Exit place.Exit) → u ≡ v
+      → InFamily family (node l r) (d ++ e)
+      → ((l ≡ place.Exit) × (r ≡ place.Exit)) ⊎ (node l r ≢ node place.Exit place.Exit) → u ≡ v
   follow n l r d e i j few first second inside (inl out) =
       let first' = subst (λ (z : Place). LeadsOut f z d i u) out.0 first in
       let second' = subst (λ (z : Place). LeadsOut g z e j v) out.1 second in
@@ -85,8 +82,10 @@ module _ (f g : Program) (alignment : ℕ) (family : Family) (positive : 0 < (co
       follow n a.place_met b.place_met a.values_there b.values_there a.left b.left
       (omega (arith, a.fewer, b.fewer, some_moves (counts_of alignment) positive l r away)) a.leads b.leads inside' (decide_exits a.place_met b.place_met)
 
-pub couplings_force_equal_results : (f g : Program) (alignment : ℕ) (family : Family) → IsProgram f → IsProgram g → f.params ≡ g.params → IsAlignment alignment
-    → IsCoupling f g alignment family → (inputs : List ℤ) (v w : ℤ) → length inputs ≡ f.params → Returns f inputs v → Returns g inputs w → v ≡ w
+pub couplings_force_equal_results : (f g : Program) (alignment : ℕ) (family : Family) → IsProgram f → IsProgram g
+    → f.params ≡ g.params → IsAlignment alignment
+    → IsCoupling f g alignment family → (inputs : List ℤ) (v w : ℤ) → length inputs ≡ f.params → Returns f inputs v
+    → Returns g inputs w → v ≡ w
 couplings_force_equal_results f g alignment family first_formed second_formed arity named coupling inputs v w long first second =
     let left = returns_leads_out f inputs v first_formed long first in
     let right = returns_leads_out g inputs w second_formed (long ∙ arity) second in

@@ -6,4 +6,6 @@ pub mod Splitting
 pub mod Moving
 pub mod Values
 pub mod Following
+pub mod OneSegment
+pub mod Joining
 pub mod Samples

@@ -87,17 +87,20 @@ keeps-entered false scope own e body step others work = record {
   ];
 }
 
-pub keeps-turned : (t : Bool) (scope : Scope) (loop : LoopParts) (work : Work) → Keeps (Cond scope loop ∷ work) (turned t scope loop work)
+pub keeps-turned : (t : Bool) (scope : Scope) (loop : LoopParts) (work : Work)
+    → Keeps (Cond scope loop ∷ work) (turned t scope loop work)
 keeps-turned true scope loop work = record { by = λ mark after. elim [ inl has ↦ inl (inr (inl has)) | inr has ↦ has ] }
 keeps-turned false scope loop work = record { by = λ mark after has. inr has }
 
 pub keeps_tested : (scope : Scope) (loop : LoopParts) (work : Work) → Keeps (Test scope loop ∷ work) (Cond scope loop ∷ work)
 keeps_tested scope loop work = record { by = λ mark after has. has }
 
-pub keeps_tail : (scope : Scope) (loop : LoopParts) (work : Work) → Keeps (Tail scope loop ∷ work) (Run scope loop.step ∷ Test scope loop ∷ work)
+pub keeps_tail : (scope : Scope) (loop : LoopParts) (work : Work)
+    → Keeps (Tail scope loop ∷ work) (Run scope loop.step ∷ Test scope loop ∷ work)
 keeps_tail scope loop work = record { by = λ mark after. elim [ inl has ↦ inl (inr (inr has)) | inr has ↦ has ] }
 
-pub keeps_mark : (own : ℕ) (scope : Scope) (others : Statements) (work : Work) → Keeps (Run scope (Mark own others) ∷ work) (Run scope others ∷ work)
+pub keeps_mark : (own : ℕ) (scope : Scope) (others : Statements) (work : Work)
+    → Keeps (Run scope (Mark own others) ∷ work) (Run scope others ∷ work)
 keeps_mark own scope others work = record { by = λ mark after. elim [ inl has ↦ inl (inr has) | inr has ↦ inr has ] }
 
 pub keeps_block : (scope : Scope) (a others : Statements) (work : Work)

@@ -28,13 +28,16 @@ pub record TakesSome (f : Program) (n : ℕ) (l : Place) (e : List ℤ) (segment
 
 module _ (f : Program) (result : ℤ) where
   -- A segment from a mark to another place is the side's last one.
-  leaves : (n k m : ℕ) (e : List ℤ) (l : Place) (values : List ℤ) → IsSegment f (place.Mark k) e l values → l ≢ place.Mark k → LeadsOut f l values m result
+  leaves : (n k m : ℕ) (e : List ℤ) (l : Place) (values : List ℤ) → IsSegment f (place.Mark k) e l values
+      → l ≢ place.Mark k → LeadsOut f l values m result
       → TakesSome f (suc n) (place.Mark k) e (suc m) result
   leaves n k m e l values segment other leads =
       record { place_met = l; values_there = values; takes = inr (segment, other); left = m; leads = leads; fewer = omega arith }
 
-  from_mark : (n k m : ℕ) (e : List ℤ) (l : Place) (values : List ℤ) → IsSegment f (place.Mark k) e l values → LeadsOut f l values m result
-      → ((l : Place) (e : List ℤ) (m : ℕ) → LeadsOut f l e m result → TakesSome f n l e m result) → TakesSome f (suc n) (place.Mark k) e (suc m) result
+  from_mark : (n k m : ℕ) (e : List ℤ) (l : Place) (values : List ℤ) → IsSegment f (place.Mark k) e l values
+      → LeadsOut f l values m result
+      → ((l : Place) (e : List ℤ) (m : ℕ) → LeadsOut f l e m result → TakesSome f n l e m result)
+      → TakesSome f (suc n) (place.Mark k) e (suc m) result
   from_mark n k m e place.Entry values segment leads more = leaves n k m e place.Entry values segment (λ same. cc) leads
   from_mark n k m e place.Exit values segment leads more = leaves n k m e place.Exit values segment (λ same. cc) leads
   from_mark n k m e (place.Mark j) values segment leads more = elim (cases_eq j k) [
@@ -52,7 +55,8 @@ module _ (f : Program) (result : ℤ) where
         }
   ]
 
-  pub takes_some : (n : ℕ) (l : Place) (e : List ℤ) (segments : ℕ) → LeadsOut f l e segments result → TakesSome f n l e segments result
+  pub takes_some : (n : ℕ) (l : Place) (e : List ℤ) (segments : ℕ) → LeadsOut f l e segments result
+      → TakesSome f n l e segments result
   takes_some zero l e segments leads =
       record { place_met = l; values_there = e; takes = (refl, refl); left = segments; leads = leads; fewer = omega arith }
   takes_some (suc n) place.Exit e segments leads =

@@ -25,7 +25,8 @@ set_reads true scope e is = is
 set_reads false scope e is = let zero_is : pos 0 ≤ℤ pos 0 = omega (arith, ints) in subst (IsOver scope) (sym is) zero_is
 
 -- Statements that are well formed read variables in scope alone.
-pub formed_reads : (stmts : Statements) (n : ℕ) (scope : Scope) (in_loop : Bool) → AreFormed n scope in_loop stmts → ReadsInScope scope stmts
+pub formed_reads : (stmts : Statements) (n : ℕ) (scope : Scope) (in_loop : Bool) → AreFormed n scope in_loop stmts
+    → ReadsInScope scope stmts
 formed_reads Nil n scope in_loop is = tt
 formed_reads (Set x e others) n scope in_loop is = (set_reads (is_in scope x) scope e is.1, formed_reads others n (x ∷ scope) in_loop is.2)
 formed_reads (If e a b others) n scope in_loop is =

@@ -1,5 +1,5 @@
 -- The definitions on small functions: segments, moves, and a coupling.
-use Rattle.std.proofs.Common.{◌≡◌, ◌≢◌, ℕ, zero, suc, inl, inr, true, List, [], ◌∷◌, ◌++◌, Some, ℤ, pos, refl, sym, ap, subst, arith}
+use Rattle.std.proofs.Common.{◌≡◌, ◌≢◌, ℕ, zero, suc, inl, inr, true, List, [], ◌∷◌, ◌++◌, Some, ℤ, pos, negsuc, refl, sym, ap, subst, arith}
 use Rattle.c_ast.specs.declared.expr.BinOp.TheVariants.{Add, Less}
 use Rattle.c_ast.specs.declared.place.Place.{Place}
 use Rattle.c_ast.specs.declared.place.Place.TheVariants as place
@@ -8,6 +8,8 @@ use Rattle.c_ast.specs.Step.{Work, scope_of, spread, start}
 use Rattle.c_ast.specs.Segment.{FitsPlace, IsSegment, met_within}
 use Rattle.alignment.specs.Counts.{counts_of}
 use Rattle.alignment.specs.Moves.{Takes, Moves}
+use Rattle.horn_clauses.specs.declared.atom.Atom.TheVariants.{Linear}
+use Rattle.horn_clauses.specs.declared.atom.Rel.TheVariants.{Eq}
 use Rattle.horn_clauses.specs.declared.family.Family.{Family}
 use Rattle.horn_clauses.specs.Node.{node}
 use Rattle.horn_clauses.specs.Family.{InFamily}
@@ -42,6 +44,13 @@ takes_two = (place.Mark 7, pos 1 ∷ pos 0 ∷ [], to_the_mark, inl (pos 1 ∷ p
 stops_early : Takes counter 3 (place.Mark 7) (pos 1 ∷ pos 1 ∷ []) place.Exit (pos 1 ∷ [])
 stops_early = inr (to_the_exit, λ same. cc)
 
+pairwise : equal_parameters 2
+    ≡ Linear (pos 1 ∷ pos 0 ∷ negsuc 0 ∷ pos 0 ∷ []) (pos 0) Eq ∷ Linear (pos 0 ∷ pos 1 ∷ pos 0 ∷ negsuc 0 ∷ []) (pos 0) Eq ∷ []
+pairwise = refl
+
+results : equal_results ≡ Linear (pos 1 ∷ negsuc 0 ∷ []) (pos 0) Eq
+results = refl
+
 -- ---- int f(int a) { return a; } and int g(int a) { int b = 0; b = a; return b; }
 
 plain : Program
@@ -72,7 +81,8 @@ plain_goes_out x met segment =
     after zero same = cc
     after (suc n) same = met_is (place.Exit, x ∷ []) met same
 
-copying_goes_out : (x : ℤ) (met : Met) → IsSegment copying place.Entry (x ∷ []) met.0 met.1 → (met.0 ≡ place.Exit) × (met.1 ≡ x ∷ [])
+copying_goes_out : (x : ℤ) (met : Met) → IsSegment copying place.Entry (x ∷ []) met.0 met.1
+    → (met.0 ≡ place.Exit) × (met.1 ≡ x ∷ [])
 unfolding copying
 copying_goes_out x met segment =
     after segment.steps (subst (λ (work : Work). met_within segment.steps work (spread (scope_of work) 2 (x ∷ [])) ≡ Some met) segment.from segment.met)
@@ -89,12 +99,14 @@ take_one f e e' l' takes =
     let at_place = subst (λ (z : Place). IsSegment f place.Entry e z takes.1) (sym takes.3.0) takes.2 in
     subst (λ (z : List ℤ). IsSegment f place.Entry e l' z) (sym takes.3.1) at_place
 
-stays_equal : (x y : ℤ) (l' r' : Place) (d' e' : List ℤ) → InFamily equal (node place.Entry place.Entry) (x ∷ y ∷ []) → (l' ≡ place.Exit) × (d' ≡ x ∷ [])
+stays_equal : (x y : ℤ) (l' r' : Place) (d' e' : List ℤ) → InFamily equal (node place.Entry place.Entry) (x ∷ y ∷ [])
+    → (l' ≡ place.Exit) × (d' ≡ x ∷ [])
     → (r' ≡ place.Exit) × (e' ≡ y ∷ []) → InFamily equal (node l' r') (d' ++ e')
 unfolding equal
 stays_equal x y l' r' d' e' inside first second = rw (first.0, first.1, second.0, second.1) inside
 
-kept : (l r l' r' : Place) (d e d' e' : List ℤ) → node l r ≢ node place.Exit place.Exit → FitsPlace plain l d → FitsPlace copying r e
+kept : (l r l' r' : Place) (d e d' e' : List ℤ) → node l r ≢ node place.Exit place.Exit → FitsPlace plain l d
+    → FitsPlace copying r e
     → InFamily equal (node l r) (d ++ e) → Moves plain copying 1 l r d e l' r' d' e' → InFamily equal (node l' r') (d' ++ e')
 unfolding plain copying equal counts_of
 kept place.Entry place.Entry l' r' [] e d' e' away fits_first fits_second inside moves = cc

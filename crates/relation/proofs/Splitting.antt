@@ -14,8 +14,13 @@ use Rattle.relation.proofs.MarksAhead.{ahead_at_start}
 use Rattle.relation.proofs.Stepping.{IsReady, AreAlike, step_alike}
 
 -- the result of at most n steps, where some marks were passed before
-abbrev result_after : ℕ → ℕ → Work → List ℤ → Option ℤ
+abbrev pub result_after : ℕ → ℕ → Work → List ℤ → Option ℤ
 result_after = seen always None no_mark as_it_is
+
+-- No segment begins at the exit.
+pub leads_from_exit : (f : Program) (e : List ℤ) (n : ℕ) (result : ℤ) → LeadsOut f place.Exit e n result → e ≡ result ∷ []
+leads_from_exit f e zero result leads = leads.1
+leads_from_exit f e (suc n) result leads = absurd leads.3.from
 
 module _ (f : Program) where
   -- From the work some steps meet a place, from which segments lead out with the result.
@@ -28,7 +33,8 @@ module _ (f : Program) where
     segments : ℕ
     leads : LeadsOut f place_met values_there segments result
 
-  after_step : (n marks : ℕ) (result : ℤ) (x y : Next) → seen_next always None no_mark as_it_is (result_after n) marks x ≡ Some result → AreAlike f x y
+  after_step : (n marks : ℕ) (result : ℤ) (x y : Next)
+      → seen_next always None no_mark as_it_is (result_after n) marks x ≡ Some result → AreAlike f x y
       → ((marks : ℕ) (work : Work) (scope : Scope) (a b : List ℤ) → IsReady f scope work a b → result_after n marks work a ≡ Some result → GoesOut work b result)
       → (work : Work) (b : List ℤ) → step work b ≡ y → GoesOut work b result
   after_step n marks result (Goes w1 a1) (Goes w2 b1) ran alike goes work b e =
@@ -85,7 +91,8 @@ module _ (f : Program) where
   after_step n marks result (Ends u) (Goes w2 b1) ran alike goes work b e = absurd alike
   after_step n marks result (Ends u) (Passes k w2 b1) ran alike goes work b e = absurd alike
 
-  splits : (n marks : ℕ) (work : Work) (scope : Scope) (a b : List ℤ) (result : ℤ) → IsReady f scope work a b → result_after n marks work a ≡ Some result
+  splits : (n marks : ℕ) (work : Work) (scope : Scope) (a b : List ℤ) (result : ℤ) → IsReady f scope work a b
+      → result_after n marks work a ≡ Some result
       → GoesOut work b result
   splits zero marks work scope a b result ready ran = cc
   splits (suc n) marks work scope a b result ready ran =

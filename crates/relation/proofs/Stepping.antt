@@ -27,7 +27,8 @@ AreAlike f (Ends u) (Goes other b) = ⊥
 AreAlike f (Ends u) (Passes own other b) = ⊥
 
 nested_branch : (scope : Scope) (e : Expression) (a b others : Statements) (work : Work) (outer : Scope)
-    → Nested outer (Run scope (If e a b others) ∷ work) → (t : Bool) → Nested scope (Run scope (cond t a b) ∷ Run scope others ∷ work)
+    → Nested outer (Run scope (If e a b others) ∷ work) → (t : Bool)
+    → Nested scope (Run scope (cond t a b) ∷ Run scope others ∷ work)
 nested_branch scope e a b others work outer is true = (within_itself scope, is.1.1, (within_itself scope, is.1.3, is.2))
 nested_branch scope e a b others work outer is false = (within_itself scope, is.1.2, (within_itself scope, is.1.3, is.2))
 
@@ -39,13 +40,15 @@ nested-entered true scope own e body tail others work outer is =
 nested-entered false scope own e body tail others work outer is =
     (within_itself scope, is.1.1, (within_itself scope, (is.1.0, is.1.1, is.1.2), (within_itself scope, is.1.3, is.2)))
 
-nested-turned : (scope : Scope) (loop : LoopParts) (work : Work) (outer : Scope) → Nested outer (Cond scope loop ∷ work) → (t : Bool) → Nested scope (turned t scope loop work)
+nested-turned : (scope : Scope) (loop : LoopParts) (work : Work) (outer : Scope)
+    → Nested outer (Cond scope loop ∷ work) → (t : Bool) → Nested scope (turned t scope loop work)
 nested-turned scope loop work outer is true = (within_itself scope, is.1.1, (within_itself scope, is.1, is.2))
 nested-turned scope loop work outer is false = is.2
 
 module _ (f : Program) where
   -- A value that both environments give decides between two branches.
-  branch_alike : (branch : Bool → Work) (scope : Scope) (work : Work) (a b : List ℤ) (u v : ℤ) → u ≡ v → Agree f.vars scope a b → IsAhead f work
+  branch_alike : (branch : Bool → Work) (scope : Scope) (work : Work) (a b : List ℤ) (u v : ℤ) → u ≡ v
+      → Agree f.vars scope a b → IsAhead f work
       → ((t : Bool) → Nested scope (branch t)) → ((t : Bool) → Keeps work (branch t))
       → AreAlike f (Goes (branch (is_nonzero u)) a) (Goes (branch (is_nonzero v)) b)
   branch_alike branch scope work a b u v e agree ahead nested keeps = (
@@ -54,7 +57,8 @@ module _ (f : Program) where
     record { nested = nested (is_nonzero u); agree = agree; ahead = ahead_kept f work (branch (is_nonzero u)) (keeps (is_nonzero u)) ahead },
   )
 
-  test_alike : (own : Option ℕ) (scope : Scope) (loop : LoopParts) (work : Work) (a b : List ℤ) → loop.mark ≡ own → IsReady f scope (Test scope loop ∷ work) a b
+  test_alike : (own : Option ℕ) (scope : Scope) (loop : LoopParts) (work : Work) (a b : List ℤ) → loop.mark ≡ own
+      → IsReady f scope (Test scope loop ∷ work) a b
       → AreAlike f (tested own (Cond scope loop ∷ work) a) (tested own (Cond scope loop ∷ work) b)
   test_alike None scope loop work a b e is = (refl, scope, record { nested = is.nested; agree = is.agree; ahead = ahead_kept f _ _ (keeps_tested scope loop work) is.ahead })
   test_alike (Some mark) scope loop work a b e is = (
@@ -64,7 +68,8 @@ module _ (f : Program) where
     is.ahead.by mark _ (inl (inl (e, refl))),
   )
 
-  pub step_alike : (work : Work) (outer : Scope) (a b : List ℤ) → IsReady f outer work a b → AreAlike f (step work a) (step work b)
+  pub step_alike : (work : Work) (outer : Scope) (a b : List ℤ) → IsReady f outer work a b
+      → AreAlike f (step work a) (step work b)
   step_alike [] outer a b is = refl
   step_alike (Run scope Nil ∷ work) outer a b is = (
     refl,

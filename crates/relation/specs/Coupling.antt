@@ -34,5 +34,5 @@ NeverDiffer f g = (inputs : List ℤ) (v w : ℤ) → length inputs ≡ f.params
 
 -- Where a family couples two functions with as many parameters, no inputs make the two return differently.
 abbrev pub LawOfCouplings : Type 0
-LawOfCouplings = (f g : Program) (alignment : ℕ) (family : Family) → IsProgram f → IsProgram g → f.params ≡ g.params → IsAlignment alignment
-    → IsCoupling f g alignment family → NeverDiffer f g
+LawOfCouplings = (f g : Program) (alignment : ℕ) (family : Family) → IsProgram f → IsProgram g → f.params ≡ g.params
+    → IsAlignment alignment → IsCoupling f g alignment family → NeverDiffer f g

@@ -7,10 +7,14 @@ pub returns-clause-counts : goal.returns-clause-counts
 unfolding counts_of
 returns-clause-counts c = ap counts_of c.self.view_is
 
-pub returns-clause-small : goal.returns-clause-small
+pub returns-clause-few_first : goal.returns-clause-few_first
 unfolding counts_of
-returns-clause-small c = (p_is_small c.self.inside.number c.self.invariant, q_is_small c.self.inside.number c.self.invariant)
+returns-clause-few_first c = p_is_small c.self.inside.number c.self.invariant
 
-pub returns-clause-positive : goal.returns-clause-positive
+pub returns-clause-few_second : goal.returns-clause-few_second
 unfolding counts_of
-returns-clause-positive c = a_is_positive c.self.inside.number c.self.invariant
+returns-clause-few_second c = q_is_small c.self.inside.number c.self.invariant
+
+pub returns-clause-some_at_marks : goal.returns-clause-some_at_marks
+unfolding counts_of
+returns-clause-some_at_marks c = a_is_positive c.self.inside.number c.self.invariant
