@@ -1,4 +1,4 @@
-use Rattle.std.proofs.Common.{◌≡◌, take, drop, length}
+use Rattle.std.proofs.Common.{◌≡◌, take, length}
 use Rattle.c_ast.proofs.same.+sameness.Given as goal
 
 abbrev pub invariant-same_stmts-loop-i : goal.invariant-same_stmts-loop-i

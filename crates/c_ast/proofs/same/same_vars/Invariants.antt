@@ -1,4 +1,4 @@
-use Rattle.std.proofs.Common.{◌≡◌, take, drop, length}
+use Rattle.std.proofs.Common.{◌≡◌, take, length}
 use Rattle.c_ast.proofs.same.same_vars.Given as goal
 
 abbrev pub invariant-loop-i : goal.invariant-loop-i
