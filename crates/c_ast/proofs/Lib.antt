@@ -12,3 +12,4 @@ pub mod InScope
 pub mod Environments
 pub mod Interpreting
 pub mod RunSamples
+pub mod Outcomes

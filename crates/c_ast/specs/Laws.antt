@@ -1,15 +1,17 @@
 -- Laws of runs: what is returned, traces, and the places that follow one another.
-use Rattle.std.specs.Prelude.{◌≡◌, ◌≤◌, ◌↔◌, List, ℤ, length, All}
+use Rattle.std.specs.Prelude.{◌≡◌, ℕ, ◌≤◌, ◌↔◌, List, ℤ, length, All}
 use Rattle.c_ast.specs.declared.place.Place.{Place}
 use Rattle.c_ast.specs.declared.place.Place.TheVariants as place
 use Rattle.c_ast.specs.declared.trace.Event.{Event}
 use Rattle.c_ast.specs.declared.trace.Trace.{Trace}
+use Rattle.c_ast.specs.declared.interpreter.Outcome.TheVariants as outcome
 use Rattle.c_ast.specs.Tree.{Program}
 use Rattle.c_ast.specs.Step.{Work}
 use Rattle.c_ast.specs.Returns.{Returns}
 use Rattle.c_ast.specs.Trace.{IsTrace}
 use Rattle.c_ast.specs.Segment.{GoesOnFrom, FitsPlace, IsSegment}
 use Rattle.c_ast.specs.Formed.{IsProgram}
+use Rattle.c_ast.specs.Interpreted.{outcome_within}
 
 -- A function returns at most one value on an input.
 abbrev pub ReturnsOnce : Type 0
@@ -47,3 +49,7 @@ pub record FitsEvent (f : Program) (event : Event) : Type 0 where
 -- Each mark that a trace passes is one of the function's, and its values fit it.
 abbrev pub TraceFits : Type 0
 TraceFits = (f : Program) → IsProgram f → (inputs : List ℤ) (trace : Trace) → IsTrace f inputs trace → All (FitsEvent f) trace.events
+
+-- What comes of some number of steps, where it is a trace, is the function's trace.
+abbrev pub OutcomeIsTrace : Type 0
+OutcomeIsTrace = (f : Program) (inputs : List ℤ) (steps : ℕ) (trace : Trace) → outcome_within steps f inputs ≡ outcome.Returned trace → IsTrace f inputs trace
