@@ -1,0 +1,7 @@
+pub mod Numbers
+pub mod Behind
+pub mod ConstantLaws
+pub mod Ascii
+pub mod Rows
+pub mod LexemeLaws
+pub mod FoundLaws
