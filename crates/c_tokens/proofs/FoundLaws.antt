@@ -100,8 +100,8 @@ constant_here text bytes behind one digit parts (operator _ row e) ends =
     absurd (false≢true (sym sign.other ∙ digit-word (get_or bytes 0 0) (rw same digit)))
 
 no_constant : (text : List ℕ) → is_digit (get_or text 0 0) ≡ true → (ConstantHere text → ⊥) → LexemeFound text NoToken
-no_constant text digit no =
-    none (λ bytes one at. no (constant_here text bytes at.behind one digit at.parts at.spells at.ends))
+no_constant text digit refuted =
+    none (λ bytes one at. refuted (constant_here text bytes at.behind one digit at.parts at.spells at.ends))
 
 behind_word : (text : List ℕ) → is_word_byte (get_or (drop (word_len text) text) 0 0) ≡ false
 behind_word [] = refl
@@ -170,10 +170,10 @@ later q head rows row f other =
 not_head : (text : List ℕ) (head : Row) (rows : List Row) (row : Row) (same : Bool) → bytes_eq head.0 row.0 ≡ same
     → starts_with nat_eq text head.0 ≡ false → row_at rows text ≡ Some row → row_with rows row.0 ≡ Some row
     → row_with (head ∷ rows) row.0 ≡ Some row
-not_head text head rows row true e no got itself =
+not_head text head rows row true e absent got itself =
     let bytes = bytes_eq-same head.0 row.0 e in
-    absurd (false≢true (sym no ∙ rw bytes (found-passes (λ (r : Row). starts_with nat_eq text r.0) rows row got)))
-not_head text head rows row false e no got itself = rw e itself
+    absurd (false≢true (sym absent ∙ rw bytes (found-passes (λ (r : Row). starts_with nat_eq text r.0) rows row got)))
+not_head text head rows row false e absent got itself = rw e itself
 
 -- the first row that passes is no shorter than another that passes
 found-longest : (p q : Row → Bool) (rows : List Row) (row other : Row) → is_longest_first rows ≡ true → find p rows ≡ Some row
@@ -256,6 +256,11 @@ sound_by text true w some digit e = answer_sound text (eqb (get_or (drop (word_l
 sound_by text false true some digit e = word_sound text some (letter_or_digit (get_or text 0 0) e digit)
 sound_by text false false some digit e = row_sound text (row_at operators text) e refl
 
+pub constant_found-is : (text bytes behind : List ℕ) (len : ℕ) (found : Found) → len ≡ word_len text → bytes ≡ take len text
+    → behind ≡ drop len text → eqb (get_or behind 0 0) 46 ≡ false → found ≡ value_found (constant_of bytes) len
+    → found ≡ constant_found text
+constant_found-is text bytes behind len found words front back point is = rw (← words, ← front, ← back, point) is
+
 -- what the program answers stands there
 pub lexeme_found-sound : (text : List ℕ) → 0 < length text → LexemeFound text (lexeme_found text)
 unfolding lexeme_found
@@ -274,10 +279,10 @@ pub LexemeFound-within : (text : List ℕ) (found : Found) → LexemeFound text 
 LexemeFound-within text found (lexeme bytes one at) =
     found_of-within one (length bytes) (length text) (spelled-some one bytes at.spells)
     (omega (arith, length-append bytes at.behind, ap length at.parts))
-LexemeFound-within text found (none no) = tt
+LexemeFound-within text found (none refuted) = tt
 
-same_length : (text xs ys as bs : List ℕ) → text ≡ xs ++ as → text ≡ ys ++ bs → length xs ≡ length ys → xs ≡ ys
-same_length text xs ys as bs p q e = sym (take-append_seam xs as) ∙ rw (← p, q, e) (take-append_seam ys bs)
+same_length : (text xs ys us vs : List ℕ) → text ≡ xs ++ us → text ≡ ys ++ vs → length xs ≡ length ys → xs ≡ ys
+same_length text xs ys us vs p q e = sym (take-append_seam xs us) ∙ rw (← p, q, e) (take-append_seam ys vs)
 
 same_lexeme : (text bytes others : List ℕ) (one other : Lexeme) → LexemeAt text bytes one → LexemeAt text others other
     → found_of one (length bytes) ≡ found_of other (length others)
@@ -292,6 +297,6 @@ same_lexeme text bytes others one other at from =
 -- one thing at most stands at a place where no gap begins
 pub LexemeFound-one : (text : List ℕ) (f g : Found) → LexemeFound text f → LexemeFound text g → f ≡ g
 LexemeFound-one text f g (lexeme bytes one at) (lexeme others other from) = same_lexeme text bytes others one other at from
-LexemeFound-one text f g (lexeme bytes one at) (none no) = absurd (no bytes one at)
-LexemeFound-one text f g (none no) (lexeme others other from) = absurd (no others other from)
-LexemeFound-one text f g (none no) (none also) = refl
+LexemeFound-one text f g (lexeme bytes one at) (none refuted) = absurd (refuted bytes one at)
+LexemeFound-one text f g (none refuted) (lexeme others other from) = absurd (refuted others other from)
+LexemeFound-one text f g (none refuted) (none also) = refl

@@ -5,3 +5,4 @@ pub mod Ascii
 pub mod Rows
 pub mod LexemeLaws
 pub mod FoundLaws
+pub mod GapLaws

@@ -45,3 +45,14 @@ AreTokens text tokens = Follow text 0 tokens None
 -- This is the first faulty place of the text: tokens and gaps alone stand before it.
 abbrev pub IsFirstFault : List ℕ → TokenFault → Type 0
 IsFirstFault text fault = (before : List Token) × Follow text 0 before (Some fault)
+
+-- The fault is that of the first faulty place, unless memory ran out.
+abbrev pub IsFault : List ℕ → TokenFault → Type 0
+IsFault text f.Memory = Unit {0}
+IsFault text fault = IsFirstFault text fault
+
+-- Two answers for a text are one.
+abbrev pub HasOneAnswer : Type 0
+HasOneAnswer =
+    (text : List ℕ) (xs ys : List Token) (one other : Option TokenFault) → Follow text 0 xs one → Follow text 0 ys other
+    → (xs ≡ ys) × (one ≡ other)

@@ -8,6 +8,7 @@ pub mod gaps;
 mod kind;
 pub mod place;
 pub mod tables;
+pub mod scan;
 mod token;
 pub mod words;
 
