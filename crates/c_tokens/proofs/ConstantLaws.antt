@@ -6,16 +6,9 @@ use Rattle.std.proofs.Math.Seq.{take-append_seam, drop-append_seam}
 use Rattle.std.proofs.lemmas.Slice.Eq.{bytes_eq-Decides}
 use Rattle.std.proofs.lemmas.Bool.{le-ltb, false≢true}
 use Rattle.std.proofs.lemmas.Bool.Decides.{nat_tests}
+use Rattle.c_tokens.proofs.Tests.{and_first, and_second}
 use Rattle.c_tokens.specs.Bytes.{is_digit, digit_value, is_digit_in}
 use Rattle.c_tokens.specs.Constants.{value_in, is_suffix, is_hex_mark, SpellsConstant, decimal, octal, hexadecimal, number_of, is_hexadecimal, constant_of}
-
-pub and_first : (a b : Bool) → (a && b) ≡ true → a ≡ true
-and_first true b e = refl
-and_first false b e = absurd cc
-
-pub and_second : (a b : Bool) → (a && b) ≡ true → b ≡ true
-and_second true b e = e
-and_second false b e = absurd cc
 
 -- the length of a run that passes, where none that passes follows
 pub prefix_len-run : {X : Type 0} (p : X → Bool) (xs ys : List X) → list_all p xs ≡ true → prefix_len p ys ≡ 0

@@ -17,7 +17,8 @@ use Rattle.c_tokens.specs.Constants.{SpellsConstant, constant_of}
 use Rattle.c_tokens.specs.Tables.{Row, operators}
 use Rattle.c_tokens.specs.Lexemes.{Lexeme, token, constant, row_with, row_at, word_kind, Spells, word, number, operator, runs_on, Ends, LexemeAt, found_of, LexemeFound, lexeme, none}
 use Rattle.c_tokens.specs.Scanned.{IsWithin, word_found, value_found, constant_found, row_found, lexeme_found}
-use Rattle.c_tokens.proofs.ConstantLaws.{and_first, and_second, prefix-passes, prefix_len-run, constant_of-whole, constant_of-sound}
+use Rattle.c_tokens.proofs.Tests.{and_first, and_second}
+use Rattle.c_tokens.proofs.ConstantLaws.{prefix-passes, prefix_len-run, constant_of-whole, constant_of-sound}
 use Rattle.c_tokens.proofs.Rows.{found-passes, found-all, bytes_eq-same, bytes_eq-refl}
 use Rattle.c_tokens.proofs.LexemeLaws.{digit-letter, digit-word, letter-word, constant-first, constant-words, operator-sign, Spells-one, spelled-some, spelled-words}
 

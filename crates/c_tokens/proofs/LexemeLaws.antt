@@ -14,7 +14,8 @@ use Rattle.c_tokens.specs.Bytes.{is_digit, is_letter, is_word_byte, digit_value,
 use Rattle.c_tokens.specs.Constants.{is_suffix, is_hex_mark, SpellsConstant, decimal, octal, hexadecimal, constant_of}
 use Rattle.c_tokens.specs.Tables.{Row, operators}
 use Rattle.c_tokens.specs.Lexemes.{Lexeme, token, constant, row_with, word_kind, Spells, word, number, operator}
-use Rattle.c_tokens.proofs.ConstantLaws.{and_first, and_second, constant_of-whole}
+use Rattle.c_tokens.proofs.Tests.{and_first, and_second}
+use Rattle.c_tokens.proofs.ConstantLaws.{constant_of-whole}
 use Rattle.c_tokens.proofs.Rows.{found-passes, found-all, bytes_eq-same}
 
 pub digit-letter : (byte : ℕ) → is_digit byte ≡ true → is_letter byte ≡ false

@@ -1,8 +1,12 @@
+pub mod Tests
 pub mod Numbers
 pub mod Behind
 pub mod ConstantLaws
-pub mod Ascii
+pub mod WordText
 pub mod Rows
 pub mod LexemeLaws
 pub mod FoundLaws
 pub mod GapLaws
+pub mod Ascii
+pub mod FollowLaws
+pub mod OneAnswer

@@ -13,7 +13,7 @@ use Rattle.c_tokens.specs.Tables.{Row, keywords, operators, row_of, rows_of}
 use Rattle.c_tokens.specs.Lexemes.{token, row_with, row_at, kind_in, word_kind, found_of}
 use Rattle.c_tokens.specs.declared.found.Found.TheVariants.{NoToken}
 use Rattle.c_tokens.specs.Scanned.{row_found}
-use Rattle.c_tokens.proofs.ConstantLaws.{and_first, and_second}
+use Rattle.c_tokens.proofs.Tests.{and_first, and_second}
 
 pub bytes_eq-same : (xs ys : List ℕ) → bytes_eq xs ys ≡ true → xs ≡ ys
 bytes_eq-same xs ys e = (bytes_eq-Decides xs ys).0 e

@@ -81,7 +81,7 @@ pub fn tokens(alloc: Global, text: &[u8]) -> Result<Vec<Token>, TokenFault>
     };
     let mut at = 0;
     while at < text.len() {
-        let rest = &text[at..];
+        let rest = text.split_at(at).1;
         let (token, len) = step(alloc, &words, &signs, place, rest)?;
         push_some(&mut tokens, token)?;
         place = after_bytes(place, &rest[..len]);
@@ -89,3 +89,8 @@ pub fn tokens(alloc: Global, text: &[u8]) -> Result<Vec<Token>, TokenFault>
     }
     Ok(tokens)
 }
+
+/// A law: a text has one list of tokens or one first faulty place, and not both.
+pub fn one_answer()
+    ensures { HasOneAnswer }
+{}

@@ -2,7 +2,7 @@ use Rattle.std.proofs.Common.{◌≡◌, ◌∙◌, Some, Option, IfOk, sym, ap,
 use Rattle.std.specs.Prelude.{codes}
 use Rattle.c_tokens.specs.declared.kind.Kind.{Kind}
 use Rattle.c_tokens.specs.declared.kind.Kind.TheVariants.{Word}
-use Rattle.c_tokens.proofs.Ascii.{words-utf8}
+use Rattle.c_tokens.proofs.WordText.{words-utf8}
 use Rattle.c_tokens.proofs.Rows.{word_kind-row, word_kind-mark, word_kind-name}
 use Rattle.c_tokens.proofs.words.word_kind.Goals as goal
 
