@@ -1,11 +1,13 @@
 -- A text has one answer at most.
-use Rattle.std.proofs.Common.{◌≡◌, ℕ, ◌+◌, ◌<◌, List, [], ◌∷◌, Option, Some, None, length, refl, sym, ◌∙◌, ap, subst, arith}
+use Rattle.std.proofs.Common.{◌≡◌, ℕ, ◌+◌, ◌<◌, List, [], ◌∷◌, Option, Some, None, length, Result, Ok, Err, refl, sym, ◌∙◌, ap, subst, arith, inl, inr, ◌⊎◌, ⊎_elim}
+use Rattle.std.specs.Prelude.{IfOk, IfErr, MatchResult}
 use Rattle.c_tokens.specs.declared.kind.Kind.{Kind}
 use Rattle.c_tokens.specs.declared.token.Token.{Token}
 use Rattle.c_tokens.specs.declared.fault.TokenFault.{TokenFault}
+use Rattle.c_tokens.specs.declared.fault.TokenFault.TheVariants as f
 use Rattle.c_tokens.specs.declared.found.Found.{Found}
 use Rattle.c_tokens.specs.declared.found.Found.TheVariants as t
-use Rattle.c_tokens.specs.Tokens.{StandsAt, token_at, fault_at, Follow, end, gap, token, stop, HasOneAnswer}
+use Rattle.c_tokens.specs.Tokens.{StandsAt, token_at, fault_at, Follow, end, gap, token, stop, AreTokens, IsFirstFault, IsFault, HasOneAnswer}
 use Rattle.c_tokens.proofs.GapLaws.{Stands-one}
 
 same : (text : List ℕ) (place : ℕ) (one other : Found) → StandsAt text place one → StandsAt text place other → one ≡ other
@@ -86,3 +88,37 @@ Follow-one text place xs ys one other (stop _ found fault lt stands e) others =
 
 pub answers-one : HasOneAnswer
 answers-one text xs ys one other = Follow-one text 0 xs ys one other
+
+some_none : (e : TokenFault) → Some e ≡ None → ⊥
+some_none e is = cc
+
+some_same : (e fault : TokenFault) → Some e ≡ Some fault → e ≡ fault
+some_same e fault is = cc
+
+-- a fault is of one text with its tokens, or of want of memory
+fault_or_memory : (text : List ℕ) (fault : TokenFault) → IsFault text fault → IsFirstFault text fault ⊎ (fault ≡ f.Memory)
+fault_or_memory text (f.NoToken line column) is = inl is
+fault_or_memory text (f.Unsupported bytes line column) is = inl is
+fault_or_memory text (f.LiteralRange line column) is = inl is
+fault_or_memory text f.Memory is = inr refl
+
+-- a text with tokens gives them
+pub only-tokens : {V : Type 0} (items : V → List Token) (text : List ℕ) (result : Result V TokenFault)
+    → IfOk result (λ v. AreTokens text (items v)) → IfErr result (IsFault text)
+    → (tokens : List Token) → AreTokens text tokens
+    → MatchResult result (λ v. items v ≡ tokens) (λ fault. fault ≡ f.Memory)
+only-tokens items text (Ok v) found fault tokens are = (Follow-one text 0 (items v) tokens None None found are).0
+only-tokens items text (Err e) found fault tokens are =
+    ⊎_elim (λ (first : IsFirstFault text e). absurd (some_none e (Follow-one text 0 first.0 tokens (Some e) None first.1 are).1))
+    (λ (memory : e ≡ f.Memory). memory) (fault_or_memory text e fault)
+
+-- a text with a first fault gives it
+pub only-fault : {V : Type 0} (items : V → List Token) (text : List ℕ) (result : Result V TokenFault)
+    → IfOk result (λ v. AreTokens text (items v)) → IfErr result (IsFault text)
+    → (fault : TokenFault) → IsFirstFault text fault
+    → MatchResult result (λ v. ⊥) (λ given. (given ≡ fault) ⊎ (given ≡ f.Memory))
+only-fault items text (Ok v) found is fault first =
+    absurd (some_none fault (Follow-one text 0 first.0 (items v) (Some fault) None first.1 found).1)
+only-fault items text (Err e) found is fault first =
+    ⊎_elim (λ (here : IsFirstFault text e). inl (some_same e fault (Follow-one text 0 here.0 first.0 (Some e) (Some fault) here.1 first.1).1))
+    (λ (memory : e ≡ f.Memory). inr memory) (fault_or_memory text e is)

@@ -1,11 +1,11 @@
 //! The tokens of a text, from place to place.
-ghost use Rattle.std.specs.Prelude.{◌≡◌, ◌≤◌, ◌<◌, ◌+◌, ◌++◌, ◌^◌, ℕ, List, length, IfOk, IfErr, OnOk, IsUtf8, option_to_list};
+ghost use Rattle.std.specs.Prelude.{◌≡◌, ◌≤◌, ◌<◌, ◌+◌, ◌++◌, ◌^◌, ℕ, List, length, IfOk, IfErr, OnOk, IsUtf8, option_to_list, MatchResult, ◌⊎◌};
 ghost use Rattle.c_tokens.specs.Tables as Tables;
 ghost use Rattle.c_tokens.specs.Tables.{rows_of};
 ghost use Rattle.c_tokens.specs.declared.token.Token.{Token};
 ghost use Rattle.c_tokens.specs.declared.fault.TokenFault.{TokenFault};
 ghost use Rattle.c_tokens.specs.Steps.{IsStep};
-ghost use Rattle.c_tokens.specs.Tokens.{AreTokens, IsFault, HasOneAnswer};
+ghost use Rattle.c_tokens.specs.Tokens.{AreTokens, IsFault, IsFirstFault, HasOneAnswer};
 
 use crate::found::{Found, found_at};
 use crate::place::{Place, after_bytes};
@@ -62,11 +62,8 @@ fn push_some(tokens: &mut Vec<Token>, token: Option<Token>) -> Result<(), AllocF
     }
 }
 
-/// The tokens of a text, or its first faulty place.
-///
-/// The text has at most 65,536 bytes. An `Ok` has the one list of tokens that the text has, and a fault other than `Memory`
-/// is that of the first faulty place. Each comes exactly where it is, unless memory runs out.
-pub fn tokens(alloc: Global, text: &[u8]) -> Result<Vec<Token>, TokenFault>
+// The tokens from place to place, up to the end or to the first fault.
+fn scanned(alloc: Global, text: &[u8]) -> Result<Vec<Token>, TokenFault>
     requires { length text.now ≤ 65536 }
     ensures tokens { IfOk result (λ tokens. AreTokens text.now tokens.items) }
     ensures fault { IfErr result (IsFault text.now) }
@@ -88,6 +85,26 @@ pub fn tokens(alloc: Global, text: &[u8]) -> Result<Vec<Token>, TokenFault>
         at += len;
     }
     Ok(tokens)
+}
+
+/// The tokens of a text, or its first faulty place.
+///
+/// The text has at most 65,536 bytes. An `Ok` has the one list of tokens that the text has, and a fault other than `Memory`
+/// is that of the first faulty place. Each comes exactly where it is, unless memory runs out.
+pub fn tokens(alloc: Global, text: &[u8]) -> Result<Vec<Token>, TokenFault>
+    requires { length text.now ≤ 65536 }
+
+    // What comes is so.
+    ensures tokens { IfOk result (λ tokens. AreTokens text.now tokens.items) }
+    ensures fault { IfErr result (IsFault text.now) }
+
+    // What is so comes, unless memory ran out.
+    ensures only_tokens { (tokens : List Token) → AreTokens text.now tokens →
+        MatchResult result (λ given. given.items ≡ tokens) (λ fault. fault ≡ TokenFault.Memory) }
+    ensures only_fault { (fault : TokenFault) → IsFirstFault text.now fault →
+        MatchResult result (λ given. ⊥) (λ given. (given ≡ fault) ⊎ (given ≡ TokenFault.Memory)) }
+{
+    scanned(alloc, text)
 }
 
 /// A law: a text has one list of tokens or one first faulty place, and not both.

@@ -3,7 +3,7 @@ use Rattle.c_tokens.specs.declared.token.Token.{Token}
 use Rattle.c_tokens.specs.declared.fault.TokenFault.{TokenFault}
 use Rattle.c_tokens.specs.Steps.{place_behind}
 use Rattle.c_tokens.specs.Tokens.{Follow}
-use Rattle.c_tokens.proofs.scan.tokens.Given as goal
+use Rattle.c_tokens.proofs.scan.scanned.Given as goal
 
 abbrev pub invariant-loop-at : goal.invariant-loop-at
 invariant-loop-at l = record {
