@@ -1,20 +1,16 @@
 -- The bytes of words and of operators are ASCII.
-use Rattle.std.proofs.Common.{◌≡◌, ℕ, zero, suc, ◌<◌, ◌^◌, Bool, true, false, cond, ◌&&◌, List, [], ◌∷◌, ◌++◌, Option, Some, None, length, take, drop, refl, sym, ◌∙◌, ap, subst, arith}
-use Rattle.std.specs.Prelude.{IsAscii, IsUtf8, nat_lt}
+use Rattle.std.proofs.Common.{◌≡◌, ℕ, ◌^◌, Bool, true, false, cond, List, ◌∷◌, Some, None, length, take, drop, refl, subst}
+use Rattle.std.specs.Prelude.{IsUtf8, nat_lt}
 use Rattle.std.specs.List.{list_all}
-use Rattle.std.proofs.lemmas.Bool.Decides.{nat_tests}
-use Rattle.std.proofs.lemmas.Str.{IsUtf8-from_ascii}
 use Rattle.std.proofs.Math.Seq.{take-append_seam}
 use Rattle.c_tokens.specs.declared.kind.Kind.TheVariants.{Constant}
 use Rattle.c_tokens.specs.declared.found.Found.{Found}
 use Rattle.c_tokens.specs.declared.found.Found.TheVariants.{Token, Unsupported, LiteralRange}
 use Rattle.c_tokens.specs.declared.gaps.Opening.{Opening}
 use Rattle.c_tokens.specs.declared.gaps.Opening.TheVariants.{White, Comment, Line, Other}
-use Rattle.c_tokens.specs.Bytes.{is_word_byte}
 use Rattle.c_tokens.specs.Tables.{Row, operators}
 use Rattle.c_tokens.specs.Lexemes.{Lexeme, token, constant, Spells, word, number, operator, found_of, LexemeFound, lexeme, none}
 use Rattle.c_tokens.specs.Gaps.{CommentFound, closed, open_ended, FoundBy, opening_of, Stands}
-use Rattle.c_tokens.proofs.Tests.{and_first, and_second}
 use Rattle.c_tokens.proofs.Rows.{found-all}
 use Rattle.c_tokens.proofs.LexemeLaws.{letter-word, constant-words, operator-sign}
 use Rattle.c_tokens.proofs.WordText.{words-utf8, ascii-utf8}
@@ -39,8 +35,8 @@ outside_len (token None) n len e = cc
 outside_len (token (Some kind)) n len e = absurd cc
 outside_len (constant value) n len e =
     elim (nat_lt value (2 ^ 63)) as (λ b. cond b (Token (Constant value) n) LiteralRange ≡ Unsupported len → n ≡ len) [
-      true ↦ λ f. absurd cc
-    | false ↦ λ f. absurd cc
+      | true ↦ λ f. absurd cc
+      | false ↦ λ f. absurd cc
     ] e
 
 lexeme-utf8 : (text : List ℕ) (found : Found) (len : ℕ) → LexemeFound text found → found ≡ Unsupported len → IsUtf8 (take len text)

@@ -1,22 +1,18 @@
 -- The tokens and gaps that follow one another in a text.
-use Rattle.std.proofs.Common.{◌≡◌, ◌⊎◌, ℕ, ◌+◌, ◌<◌, ◌≤◌, List, [], ◌∷◌, ◌++◌, Option, Some, None, Result, Ok, Err, length, take, drop, refl, sym, ◌∙◌, ap, subst, arith, append_assoc, inl, inr, ⊎_elim}
+use Rattle.std.proofs.Common.{◌≡◌, ℕ, ◌+◌, ◌<◌, ◌≤◌, List, [], ◌++◌, Option, Some, None, Result, Ok, Err, length, take, drop, sym, ◌∙◌, ap, subst, append_assoc, ⊎_elim}
 use Rattle.std.specs.Prelude.{option_to_list, IfErr}
 use Rattle.std.proofs.Math.Seq.{take-add}
-use Rattle.std.proofs.lemmas.List.{append-nil, length-drop}
-use Rattle.c_tokens.specs.declared.kind.Kind.{Kind}
+use Rattle.std.proofs.lemmas.List.{append-nil}
 use Rattle.c_tokens.specs.declared.token.Token.{Token}
 use Rattle.c_tokens.specs.declared.place.Place.{Place}
 use Rattle.c_tokens.specs.declared.fault.TokenFault.{TokenFault}
 use Rattle.c_tokens.specs.declared.fault.TokenFault.TheVariants as f
 use Rattle.c_tokens.specs.declared.found.Found.{Found}
 use Rattle.c_tokens.specs.declared.found.Found.TheVariants as t
-use Rattle.c_tokens.specs.Places.{is_line_front}
-use Rattle.c_tokens.specs.Gaps.{Stands}
 use Rattle.c_tokens.specs.Scanned.{IsWithin}
 use Rattle.c_tokens.specs.Steps.{after_bytes, place_behind, step_of, IsStepOf, IsStep}
 use Rattle.c_tokens.specs.Tokens.{StandsAt, token_at, fault_at, Follow, end, gap, token, stop, IsFirstFault, IsFault}
 use Rattle.c_tokens.proofs.Behind.{after_bytes-place_behind}
-use Rattle.c_tokens.proofs.GapLaws.{Stands-one}
 
 -- the place behind more bytes of the text
 pub place_behind-moves : (text rest bytes : List ℕ) (at len : ℕ) (place next : Place) → rest ≡ drop at text → bytes ≡ take len rest
@@ -96,7 +92,7 @@ pub step-fault : (text rest : List ℕ) (at : ℕ) (place : Place) (front : List
 step-fault text rest at place front e back here lt step so_far =
     ⊎_elim (λ (memory : failed e ≡ failed f.Memory). fault_memory text e cc)
     (λ (of : IsStepOf (place_behind (take at text)) (drop at text) (Err e)).
-      fault_first text e (front ++ [], so_far [] (Some e) (stop at of.found e lt of.stands (fault_of-step text at e of.found of.is))))
+    fault_first text e (front ++ [], so_far [] (Some e) (stop at of.found e lt of.stands (fault_of-step text at e of.found of.is))))
     (step_here text rest at place (Err e) back here step)
 
 -- the fault that a `?` hands on

@@ -1,23 +1,22 @@
 -- What stands at a place is what the program answers for it, and nothing else.
-use Rattle.std.proofs.Common.{◌≡◌, ◌≢◌, ℕ, zero, suc, ◌+◌, ◌-◌, ◌<◌, ◌≤◌, ◌^◌, Bool, true, false, cond, ◌&&◌, ◌||◌, List, [], ◌∷◌, ◌++◌, Option, Some, None, length, take, drop, get_or, eqb, leb, bytes_eq, true≢false, refl, sym, ◌∙◌, ap, subst, arith}
+use Rattle.std.proofs.Common.{◌≡◌, ◌≢◌, ℕ, suc, ◌+◌, ◌<◌, ◌≤◌, ◌^◌, Bool, true, false, cond, ◌&&◌, ◌||◌, List, [], ◌∷◌, ◌++◌, Option, Some, None, length, take, drop, get_or, eqb, bytes_eq, refl, sym, ◌∙◌, ap, subst, arith}
 use Rattle.std.specs.Prelude.{find, nat_eq, nat_le, nat_lt}
 use Rattle.std.specs.List.{list_all, prefix_len, starts_with}
 use Rattle.std.proofs.lemmas.Bool.{false≢true}
 use Rattle.std.proofs.lemmas.Bool.Decides.{nat_tests, Decides-eqb}
 use Rattle.std.proofs.lemmas.Slice.Eq.{starts_is}
 use Rattle.std.proofs.lemmas.List.{take-append-drop, length-append}
-use Rattle.std.proofs.lemmas.List.Sums.{prefix_len-le-length}
 use Rattle.std.proofs.lemmas.List.Folds.{length-prefix_len}
 use Rattle.std.proofs.Math.Seq.{take-append_seam, drop-append_seam}
 use Rattle.c_tokens.specs.declared.found.Found.{Found}
-use Rattle.c_tokens.specs.declared.found.Found.TheVariants.{Gap, Token, NoToken, Unsupported, LiteralRange}
+use Rattle.c_tokens.specs.declared.found.Found.TheVariants.{Token, NoToken, LiteralRange}
 use Rattle.c_tokens.specs.declared.kind.Kind.TheVariants.{Constant}
 use Rattle.c_tokens.specs.Bytes.{is_digit, is_letter, is_word_byte, word_len}
-use Rattle.c_tokens.specs.Constants.{SpellsConstant, constant_of}
+use Rattle.c_tokens.specs.Constants.{constant_of}
 use Rattle.c_tokens.specs.Tables.{Row, operators}
-use Rattle.c_tokens.specs.Lexemes.{Lexeme, token, constant, row_with, row_at, word_kind, Spells, word, number, operator, runs_on, Ends, LexemeAt, found_of, LexemeFound, lexeme, none}
+use Rattle.c_tokens.specs.Lexemes.{Lexeme, token, constant, row_with, row_at, word_kind, Spells, word, number, operator, Ends, LexemeAt, found_of, LexemeFound, lexeme, none}
 use Rattle.c_tokens.specs.Scanned.{IsWithin, word_found, value_found, constant_found, row_found, lexeme_found}
-use Rattle.c_tokens.proofs.Tests.{and_first, and_second}
+use Rattle.c_tokens.proofs.Both.{and_first, and_second}
 use Rattle.c_tokens.proofs.ConstantLaws.{prefix-passes, prefix_len-run, constant_of-whole, constant_of-sound}
 use Rattle.c_tokens.proofs.Rows.{found-passes, found-all, bytes_eq-same, bytes_eq-refl}
 use Rattle.c_tokens.proofs.LexemeLaws.{digit-letter, digit-word, letter-word, constant-first, constant-words, operator-sign, Spells-one, spelled-some, spelled-words}
@@ -89,7 +88,7 @@ constant_here text bytes behind one digit parts (word first others letter all) e
     absurd (false≢true (sym (digit-letter first (rw same digit)) ∙ letter))
 constant_here text bytes behind one digit parts (number _ value c) ends =
     let len : word_len text ≡ length bytes = rw parts (prefix_len-run is_word_byte bytes behind (constant-words bytes value c)
-      (prefix_len-none is_word_byte behind (or_first (is_word_byte (get_or behind 0 0)) (eqb (get_or behind 0 0) 46) ends))) in
+    (prefix_len-none is_word_byte behind (or_first (is_word_byte (get_or behind 0 0)) (eqb (get_or behind 0 0) 46) ends))) in
     record {
       value = value;
       found = rw (len, parts, take-append_seam bytes behind) (constant_of-whole bytes value c);
@@ -109,8 +108,8 @@ behind_word [] = refl
 behind_word (first ∷ others) =
     let one : 1 + word_len others ≡ suc (word_len others) = omega arith in
     elim (is_word_byte first) as (λ b. is_word_byte first ≡ b → is_word_byte (get_or (drop (cond b (1 + word_len others) 0) (first ∷ others)) 0 0) ≡ false) [
-      true ↦ λ w. rw one (behind_word others)
-    | false ↦ λ w. w
+      | true ↦ λ w. rw one (behind_word others)
+      | false ↦ λ w. w
     ] refl
 
 taken_digit : (text : List ℕ) → is_digit (get_or text 0 0) ≡ true → is_digit (get_or (take (word_len text) text) 0 0) ≡ true
@@ -164,8 +163,8 @@ le_itself n = grind (arith, nat_tests)
 later : (q : Row → Bool) (head : Row) (rows : List Row) (row : Row) → find q (head ∷ rows) ≡ Some row → head ≢ row → find q rows ≡ Some row
 later q head rows row f other =
     elim (q head) as (λ b. cond b (Some head) (find q rows) ≡ Some row → find q rows ≡ Some row) [
-      true ↦ λ got. absurd (other cc)
-    | false ↦ λ got. got
+      | true ↦ λ got. absurd (other cc)
+      | false ↦ λ got. got
     ] f
 
 not_head : (text : List ℕ) (head : Row) (rows : List Row) (row : Row) (same : Bool) → bytes_eq head.0 row.0 ≡ same
@@ -184,11 +183,11 @@ found-longest p q (head ∷ rows) row other sorted e f passes =
     let below = and_first (list_all (λ (o : Row). nat_le (length o.0) (length head.0)) rows) (is_longest_first rows) sorted in
     let all : list_all (λ (o : Row). nat_le (length o.0) (length head.0)) (head ∷ rows) ≡ true = rw (le_itself (length head.0), below) refl in
     elim (p head) as (λ b. p head ≡ b → cond b (Some head) (find p rows) ≡ Some row → length other.0 ≤ length row.0) [
-      true ↦ λ here got. let same : head ≡ row = cc in
-        rw (← same) (not_more (length other.0) (length head.0) (found-all q (λ (o : Row). nat_le (length o.0) (length head.0)) (head ∷ rows) other all f))
-    | false ↦ λ here got. found-longest p q rows row other
-        (and_second (list_all (λ (o : Row). nat_le (length o.0) (length head.0)) rows) (is_longest_first rows) sorted) got
-        (later q head rows other f (λ (same : head ≡ other). false≢true (sym here ∙ ap p same ∙ passes))) passes
+      | true ↦ λ here got. let same : head ≡ row = cc in
+          rw (← same) (not_more (length other.0) (length head.0) (found-all q (λ (o : Row). nat_le (length o.0) (length head.0)) (head ∷ rows) other all f))
+      | false ↦ λ here got. found-longest p q rows row other
+          (and_second (list_all (λ (o : Row). nat_le (length o.0) (length head.0)) rows) (is_longest_first rows) sorted) got
+          (later q head rows other f (λ (same : head ≡ other). false≢true (sym here ∙ ap p same ∙ passes))) passes
     ] refl e
 
 -- a row that is found and is none of the passed ones
@@ -196,8 +195,8 @@ row_none : (p q : Row → Bool) (rows : List Row) (row : Row) → find p rows �
 row_none p q [] row e f passes = cc
 row_none p q (head ∷ rows) row e f passes =
     elim (p head) as (λ b. p head ≡ b → cond b (Some head) (find p rows) ≡ None → ⊥) [
-      true ↦ λ here got. cc
-    | false ↦ λ here got. row_none p q rows row got (later q head rows row f (λ (same : head ≡ row). false≢true (sym here ∙ ap p same ∙ passes))) passes
+      | true ↦ λ here got. cc
+      | false ↦ λ here got. row_none p q rows row got (later q head rows row f (λ (same : head ≡ row). false≢true (sym here ∙ ap p same ∙ passes))) passes
     ] refl e
 
 -- the first row that stands at the front is the first with its spelling
@@ -205,9 +204,9 @@ row-itself : (text : List ℕ) (rows : List Row) (row : Row) → row_at rows tex
 row-itself text [] row e = absurd cc
 row-itself text (head ∷ rows) row e =
     elim (starts_with nat_eq text head.0) as (λ b. starts_with nat_eq text head.0 ≡ b → cond b (Some head) (row_at rows text) ≡ Some row
-        → row_with (head ∷ rows) row.0 ≡ Some row) [
-      true ↦ λ here got. let same : head ≡ row = cc in rw (same, bytes_eq-refl row.0) refl
-    | false ↦ λ here got. not_head text head rows row (bytes_eq head.0 row.0) refl here got (row-itself text rows row got)
+    → row_with (head ∷ rows) row.0 ≡ Some row) [
+      | true ↦ λ here got. let same : head ≡ row = cc in rw (same, bytes_eq-refl row.0) refl
+      | false ↦ λ here got. not_head text head rows row (bytes_eq head.0 row.0) refl here got (row-itself text rows row got)
     ] refl e
 
 sign-longest : (text : List ℕ) (row : Row) → is_word_byte (get_or text 0 0) ≡ false → row_at operators text ≡ Some row
@@ -272,8 +271,8 @@ found_of-within (token None) len most some few = (some, few)
 found_of-within (token (Some kind)) len most some few = (some, few)
 found_of-within (constant value) len most some few =
     elim (nat_lt value (2 ^ 63)) as (λ b. IsWithin (cond b (Token (Constant value) len) LiteralRange) most) [
-      true ↦ (some, few)
-    | false ↦ tt
+      | true ↦ (some, few)
+      | false ↦ tt
     ]
 
 pub LexemeFound-within : (text : List ℕ) (found : Found) → LexemeFound text found → IsWithin found (length text)

@@ -1,14 +1,13 @@
 -- Gaps, and what stands at a place in general.
-use Rattle.std.proofs.Common.{◌≡◌, ℕ, suc, ◌+◌, ◌<◌, ◌≤◌, Bool, true, false, cond, List, [], ◌∷◌, Option, Some, None, length, drop, get_or, refl, sym, ◌∙◌, ap, subst, arith, IfOk, Result, Ok, Err, ⊎_elim}
+use Rattle.std.proofs.Common.{◌≡◌, ℕ, ◌<◌, ◌≤◌, Bool, true, false, List, [], ◌∷◌, length, drop, get_or, refl, sym, ◌∙◌, arith, IfOk, Result, Ok, Err, ⊎_elim}
 use Rattle.std.specs.Prelude.{not}
 use Rattle.std.proofs.lemmas.Bool.Decides.{nat_tests}
 use Rattle.std.proofs.lemmas.Bool.{cases_lt}
 use Rattle.c_tokens.specs.declared.found.Found.{Found}
-use Rattle.c_tokens.specs.declared.found.Found.TheVariants.{Gap, NoToken}
 use Rattle.c_tokens.specs.declared.gaps.Opening.{Opening}
 use Rattle.c_tokens.specs.declared.gaps.Opening.TheVariants.{White, Comment, Line, Other}
 use Rattle.c_tokens.specs.Bytes.{is_white, is_newline}
-use Rattle.c_tokens.specs.Gaps.{line_len, opening_of, IsEndAt, CommentFound, closed, open_ended, FoundBy, Stands}
+use Rattle.c_tokens.specs.Gaps.{line_len, opening_of, CommentFound, closed, open_ended, FoundBy, Stands}
 use Rattle.c_tokens.specs.Scanned.{IsWithin, lexeme_found}
 use Rattle.c_tokens.proofs.FoundLaws.{lexeme_found-sound, LexemeFound-within, LexemeFound-one}
 

@@ -1,20 +1,16 @@
 -- Lexemes and the function that tells them.
-use Rattle.std.proofs.Common.{◌≡◌, ◌≢◌, ◌⊎◌, ℕ, zero, suc, ◌+◌, ◌<◌, ◌≤◌, Bool, true, false, cond, ◌&&◌, ◌||◌, List, [], ◌∷◌, ◌++◌, Option, Some, None, length, take, drop, get_or, eqb, leb, option_map, bytes_eq, true≢false, refl, sym, ◌∙◌, ap, subst, arith}
-use Rattle.std.specs.Prelude.{find, nat_eq, not, nat_lt, nat_le}
-use Rattle.std.specs.List.{list_all, list_any, prefix_len, starts_with}
-use Rattle.std.specs.Borrow.{Bor}
+use Rattle.std.proofs.Common.{◌≡◌, ℕ, ◌<◌, ◌≤◌, Bool, true, false, cond, ◌&&◌, ◌||◌, List, [], ◌∷◌, ◌++◌, Option, Some, length, get_or, option_map, bytes_eq, refl, sym, ◌∙◌, arith}
+use Rattle.std.specs.Prelude.{not, nat_lt}
+use Rattle.std.specs.List.{list_all, list_any}
 use Rattle.std.proofs.lemmas.Bool.{false≢true}
 use Rattle.std.proofs.lemmas.Bool.Decides.{nat_tests}
-use Rattle.std.proofs.lemmas.List.{take-append-drop, length-append}
-use Rattle.std.proofs.lemmas.List.Folds.{length-prefix_len, list_all-append}
-use Rattle.std.proofs.Math.Seq.{take-append_seam, drop-append_seam}
+use Rattle.std.proofs.lemmas.List.Folds.{list_all-append}
 use Rattle.c_tokens.specs.declared.tables.TheConstants.{SUFFIXES}
-use Rattle.c_tokens.specs.declared.kind.Kind.{Kind}
-use Rattle.c_tokens.specs.Bytes.{is_digit, is_letter, is_word_byte, digit_value, is_digit_in, word_len}
+use Rattle.c_tokens.specs.Bytes.{is_digit, is_letter, is_word_byte, digit_value, is_digit_in}
 use Rattle.c_tokens.specs.Constants.{is_suffix, is_hex_mark, SpellsConstant, decimal, octal, hexadecimal, constant_of}
 use Rattle.c_tokens.specs.Tables.{Row, operators}
 use Rattle.c_tokens.specs.Lexemes.{Lexeme, token, constant, row_with, word_kind, Spells, word, number, operator}
-use Rattle.c_tokens.proofs.Tests.{and_first, and_second}
+use Rattle.c_tokens.proofs.Both.{and_first, and_second}
 use Rattle.c_tokens.proofs.ConstantLaws.{constant_of-whole}
 use Rattle.c_tokens.proofs.Rows.{found-passes, found-all, bytes_eq-same}
 
@@ -53,9 +49,9 @@ among : {X : Type 0} (words : List X) (view : X → List ℕ) (q : List ℕ → 
 among [] view q bytes all e = absurd cc
 among (each ∷ words) view q bytes all e =
     elim (bytes_eq (view each) bytes) as (λ b. bytes_eq (view each) bytes ≡ b
-        → (b || list_any (λ each. bytes_eq (view each) bytes) words) ≡ true → q bytes ≡ true) [
-      true ↦ λ here any. rw (← bytes_eq-same (view each) bytes here) (and_first (q (view each)) (list_all (λ each. q (view each)) words) all)
-    | false ↦ λ here any. among words view q bytes (and_second (q (view each)) (list_all (λ each. q (view each)) words) all) any
+    → (b || list_any (λ each. bytes_eq (view each) bytes) words) ≡ true → q bytes ≡ true) [
+      | true ↦ λ here any. rw (← bytes_eq-same (view each) bytes here) (and_first (q (view each)) (list_all (λ each. q (view each)) words) all)
+      | false ↦ λ here any. among words view q bytes (and_second (q (view each)) (list_all (λ each. q (view each)) words) all) any
     ] refl e
 
 suffix-words : (suffix : List ℕ) → is_suffix suffix ≡ true → list_all is_word_byte suffix ≡ true

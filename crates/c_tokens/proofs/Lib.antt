@@ -1,4 +1,4 @@
-pub mod Tests
+pub mod Both
 pub mod Numbers
 pub mod Behind
 pub mod ConstantLaws
@@ -10,3 +10,4 @@ pub mod GapLaws
 pub mod Ascii
 pub mod FollowLaws
 pub mod OneAnswer
+pub mod Samples

@@ -1,5 +1,5 @@
 -- Values of digits, and values that stop at a limit.
-use Rattle.std.proofs.Common.{◌≡◌, ℕ, suc, ◌+◌, ◌*◌, ◌^◌, ◌<◌, ◌≤◌, List, [], ◌∷◌, length, drop, get_or, min, refl, sym, ◌∙◌, ap, arith, ⊎_elim}
+use Rattle.std.proofs.Common.{◌≡◌, ℕ, suc, ◌+◌, ◌*◌, ◌^◌, ◌<◌, ◌≤◌, List, [], ◌∷◌, length, drop, get_or, min, refl, ◌∙◌, arith, ⊎_elim}
 use Rattle.std.proofs.Math.Seq.{drop-cons}
 use Rattle.std.proofs.lemmas.Bool.{cases_lt}
 use Rattle.c_tokens.specs.Bytes.{digit_value}
@@ -24,7 +24,7 @@ pub value_from-capped : (limit base value : ℕ) (digits : List ℕ) → 0 < bas
 value_from-capped limit base value digits some =
     ⊎_elim (λ (below : value < limit). let same : min limit value ≡ value = omega arith in rw same refl)
     (λ (above : limit ≤ value). let same : min limit value ≡ limit = omega arith in
-      rw same (omega (arith, value_from-le base limit digits some, value_from-le base value digits some)))
+    rw same (omega (arith, value_from-le base limit digits some, value_from-le base value digits some)))
     (cases_lt value limit)
 
 -- one more digit
@@ -36,4 +36,4 @@ value_from-digit limit base value next digits i all some lt is so_far =
     let more : i + 1 ≡ suc i = omega arith in
     let capped : next ≡ min limit (value * base + digit_value (get_or digits i 0)) = omega (arith, is) in
     rw (capped, more) (value_from-capped limit base (value * base + digit_value (get_or digits i 0)) (drop (suc i) digits) some
-      ∙ (rw (drop-cons digits i 0 lt) at so_far))
+    ∙ (rw (drop-cons digits i 0 lt) at so_far))

@@ -1,19 +1,16 @@
 -- Rows of a table, and the rows that are found in it.
-use Rattle.std.proofs.Common.{◌≡◌, ℕ, ◌+◌, ◌<◌, ◌≤◌, Bool, true, false, cond, ◌&&◌, List, [], ◌∷◌, ◌++◌, Option, Some, None, length, take, drop, get_or, leb, option_map, bytes_eq, refl, sym, ◌∙◌, ap, subst, arith}
-use Rattle.std.specs.Prelude.{map, find, nat_eq, not, nat_lt, nat_le, codes}
+use Rattle.std.proofs.Common.{◌≡◌, ℕ, Bool, true, false, cond, List, [], ◌∷◌, Option, Some, None, length, option_map, bytes_eq, refl, sym, ◌∙◌, ap}
+use Rattle.std.specs.Prelude.{find, nat_eq, codes}
 use Rattle.std.specs.List.{list_all, starts_with}
 use Rattle.std.specs.Borrow.{Bor}
-use Rattle.std.proofs.lemmas.Bool.{false≢true}
-use Rattle.std.proofs.lemmas.Bool.Decides.{nat_tests}
 use Rattle.std.proofs.lemmas.Slice.Eq.{bytes_eq-Decides}
 use Rattle.c_tokens.specs.declared.kind.Kind.{Kind}
-use Rattle.c_tokens.specs.Bytes.{is_word_byte}
 use Rattle.c_tokens.specs.declared.kind.Kind.TheVariants.{MarkWord, Word}
 use Rattle.c_tokens.specs.Tables.{Row, keywords, operators, row_of, rows_of}
 use Rattle.c_tokens.specs.Lexemes.{token, row_with, row_at, kind_in, word_kind, found_of}
 use Rattle.c_tokens.specs.declared.found.Found.TheVariants.{NoToken}
 use Rattle.c_tokens.specs.Scanned.{row_found}
-use Rattle.c_tokens.proofs.Tests.{and_first, and_second}
+use Rattle.c_tokens.proofs.Both.{and_first, and_second}
 
 pub bytes_eq-same : (xs ys : List ℕ) → bytes_eq xs ys ≡ true → xs ≡ ys
 bytes_eq-same xs ys e = (bytes_eq-Decides xs ys).0 e
@@ -26,8 +23,8 @@ pub found-passes : {X : Type 0} (p : X → Bool) (xs : List X) (x : X) → find 
 found-passes p [] x e = absurd cc
 found-passes p (y ∷ xs) x e =
     elim (p y) as (λ b. p y ≡ b → cond b (Some y) (find p xs) ≡ Some x → p x ≡ true) [
-      true ↦ λ here got. let same : y ≡ x = cc in rw (← same) here
-    | false ↦ λ here got. found-passes p xs x got
+      | true ↦ λ here got. let same : y ≡ x = cc in rw (← same) here
+      | false ↦ λ here got. found-passes p xs x got
     ] refl e
 
 -- what each row passes, a row that is found passes
@@ -35,8 +32,8 @@ pub found-all : {X : Type 0} (p q : X → Bool) (xs : List X) (x : X) → list_a
 found-all p q [] x all e = absurd cc
 found-all p q (y ∷ xs) x all e =
     elim (p y) as (λ b. cond b (Some y) (find p xs) ≡ Some x → q x ≡ true) [
-      true ↦ λ got. let same : y ≡ x = cc in rw (← same) (and_first (q y) (list_all q xs) all)
-    | false ↦ λ got. found-all p q xs x (and_second (q y) (list_all q xs) all) got
+      | true ↦ λ got. let same : y ≡ x = cc in rw (← same) (and_first (q y) (list_all q xs) all)
+      | false ↦ λ got. found-all p q xs x (and_second (q y) (list_all q xs) all) got
     ] e
 
 -- a search in the rows that the program has
@@ -45,8 +42,8 @@ pub find-rows_of : (p : Row → Bool) (rows : List (Bor (List ℕ) × Option Kin
 find-rows_of p [] = refl
 find-rows_of p (row ∷ rows) =
     elim (p (row_of row)) as (λ b. option_map row_of (cond b (Some row) (find (λ r. p (row_of r)) rows)) ≡ cond b (Some (row_of row)) (find p (rows_of rows))) [
-      true ↦ refl
-    | false ↦ find-rows_of p rows
+      | true ↦ refl
+      | false ↦ find-rows_of p rows
     ]
 
 -- a search in the keywords of the program

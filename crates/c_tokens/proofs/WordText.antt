@@ -1,11 +1,11 @@
 -- Words are text.
-use Rattle.std.proofs.Common.{◌≡◌, ℕ, zero, suc, ◌<◌, Bool, true, ◌&&◌, List, [], ◌∷◌, arith}
+use Rattle.std.proofs.Common.{◌≡◌, ℕ, zero, suc, ◌<◌, Bool, true, List, [], ◌∷◌, arith}
 use Rattle.std.specs.Prelude.{IsAscii, IsUtf8, nat_lt}
 use Rattle.std.specs.List.{list_all}
 use Rattle.std.proofs.lemmas.Bool.Decides.{nat_tests}
 use Rattle.std.proofs.lemmas.Str.{IsUtf8-from_ascii}
 use Rattle.c_tokens.specs.Bytes.{is_word_byte}
-use Rattle.c_tokens.proofs.Tests.{and_first, and_second}
+use Rattle.c_tokens.proofs.Both.{and_first, and_second}
 
 ascii_word : (byte : ℕ) → is_word_byte byte ≡ true → byte < 128
 ascii_word byte e = grind (arith, nat_tests)

@@ -1,5 +1,5 @@
 -- What may stand between tokens: white space, comments (ISO C11, 6.4.9) and `#include` lines (6.10.2).
-use Rattle.std.specs.Prelude.{◌≡◌, ℕ, ◌+◌, ◌<◌, Bool, ◌&&◌, ◌||◌, ◌==◌, not, nat_eq, if◌then◌else◌, List, length, take, drop, slice_index, bytes_eq, codes}
+use Rattle.std.specs.Prelude.{◌≡◌, ℕ, ◌+◌, ◌<◌, Bool, ◌&&◌, ◌||◌, ◌==◌, not, nat_eq, if◌then◌else◌, List, take, drop, slice_index, bytes_eq, codes}
 use Rattle.std.specs.List.{starts_with, prefix_len}
 use Rattle.c_tokens.specs.declared.found.Found.{Found}
 use Rattle.c_tokens.specs.declared.found.Found.TheVariants.{Gap, NoToken}
@@ -25,8 +25,8 @@ unfoldable pub is_include : List ℕ → Bool
 is_include text =
     slice_index text 0 == 35 && bytes_eq (first_word (behind_blanks (drop 1 text))) (codes "include")
 
--- what begins at the front of a text: white space, a comment, a line that is skipped (a comment of one line, or an `#include`
--- line, whose `#` has only blanks before it on its line), or something else
+-- what begins at the front of a text: white space, a comment, a line that is skipped (a comment of one line, or an
+-- `#include` line, whose `#` has only blanks before it on its line), or something else
 unfoldable pub opening_of : Bool → List ℕ → Opening
 opening_of front text =
     if is_white (slice_index text 0) then White

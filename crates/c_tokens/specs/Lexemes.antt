@@ -1,14 +1,14 @@
--- Which bytes are a keyword, a name, an operator or a constant, and which of these stands at the front of a text (ISO C11,
--- 6.4). Those outside the profile are among them.
-use Rattle.std.specs.Prelude.{◌≡◌, ℕ, ◌^◌, ◌≤◌, Bool, true, false, ◌||◌, ◌==◌, nat_eq, nat_lt, if◌then◌else◌, List, ◌∷◌, ◌++◌, length, take, drop, slice_index, Option, Some, None, bytes_eq, codes, find}
+-- Which bytes are a keyword, a name, an operator or a constant, and which of these stands at the front of a text
+-- (ISO C11, 6.4). Those outside the profile are among them.
+use Rattle.std.specs.Prelude.{◌≡◌, ℕ, ◌^◌, ◌≤◌, Bool, true, false, ◌||◌, ◌==◌, nat_eq, nat_lt, if◌then◌else◌, List, ◌∷◌, ◌++◌, length, slice_index, Option, Some, None, bytes_eq, codes, find}
 use Rattle.std.specs.List.{list_all, starts_with}
 use Rattle.c_tokens.specs.declared.kind.Kind.{Kind}
 use Rattle.c_tokens.specs.declared.kind.Kind.TheVariants.{Word, MarkWord, Constant}
 use Rattle.c_tokens.specs.declared.found.Found.{Found}
 use Rattle.c_tokens.specs.declared.found.Found.TheVariants.{Token, NoToken, Unsupported, LiteralRange}
 use Rattle.c_tokens.specs.Tables.{Row, keywords, operators}
-use Rattle.c_tokens.specs.Bytes.{is_digit, is_letter, is_word_byte, word_len}
-use Rattle.c_tokens.specs.Constants.{SpellsConstant, constant_of}
+use Rattle.c_tokens.specs.Bytes.{is_letter, is_word_byte}
+use Rattle.c_tokens.specs.Constants.{SpellsConstant}
 
 pub data Lexeme : Type 0 where
   -- a keyword, a name or an operator, with its kind where the profile has it

@@ -1,5 +1,5 @@
 -- How a place moves on over bytes.
-use Rattle.std.specs.Prelude.{◌≡◌, ◌⊎◌, ℕ, length, take, Option, Some, None, Result, Ok, Err, ◌+◌, true, ◌&&◌, ◌==◌, if◌then◌else◌, List, [], ◌∷◌}
+use Rattle.std.specs.Prelude.{◌≡◌, ◌⊎◌, ℕ, length, take, Option, Some, None, Result, Ok, Err, ◌+◌, true, ◌&&◌, if◌then◌else◌, List, [], ◌∷◌}
 use Rattle.c_tokens.specs.declared.place.Place.{Place}
 use Rattle.c_tokens.specs.declared.token.Token.{Token}
 use Rattle.c_tokens.specs.declared.fault.TokenFault.{TokenFault}

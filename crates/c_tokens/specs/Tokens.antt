@@ -1,4 +1,5 @@
--- Which tokens a text has, and which place is its first faulty one (ISO C11, 6.4). A place is the number of bytes before it.
+-- Which tokens a text has, and which place is its first faulty one (ISO C11, 6.4). A place is the number of bytes
+-- before it.
 use Rattle.std.specs.Prelude.{◌≡◌, ℕ, ◌+◌, ◌<◌, List, [], ◌∷◌, length, take, drop, Option, Some, None}
 use Rattle.c_tokens.specs.declared.kind.Kind.{Kind}
 use Rattle.c_tokens.specs.declared.token.Token.{Token}

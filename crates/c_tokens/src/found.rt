@@ -43,7 +43,8 @@ fn token_found(kind: Option<Kind>, len: usize) -> Found
 
 // What a constant is, by its value, or `LIMIT` where it is that or more.
 fn value_found(value: Option<u64>, len: usize) -> Found
-    ensures { (exact : Option ℕ) → value ≡ option_map (min (2 ^ 63)) exact → result ≡ value_found exact len }
+    ensures { (exact : Option ℕ) → value ≡ option_map (min (2 ^ 63)) exact →
+        result ≡ value_found exact len }
 {
     match value {
         None => Found::NoToken,

@@ -17,7 +17,8 @@ use std::alloc::{AllocError, AllocFailed, Global};
 // The fault that this word stands at a place, outside the profile.
 fn unsupported(alloc: Global, word: &[u8], place: Place) -> Result<TokenFault, AllocError>
     requires { IsUtf8 word.now }
-    ensures { IfOk result (λ fault. fault ≡ TokenFault.Unsupported word.now place.line place.column) }
+    ensures { IfOk result (λ fault.
+        fault ≡ TokenFault.Unsupported word.now place.line place.column) }
 {
     let Ok(text) = str::from_utf8(word) else {
         unreachable!()
@@ -43,7 +44,11 @@ fn step(
     requires signs { rows_of signs.now ≡ Tables.operators }
     ensures { IsStep place rest.now result }
 {
-    let Place { line, column, front } = place;
+    let Place {
+        line,
+        column,
+        front,
+    } = place;
     match found_at(alloc, words, signs, front, rest)? {
         Found::Gap(len) => Ok((None, len)),
         Found::Token(kind, len) => Ok((Some(Token { kind, line, column }), len)),
@@ -89,8 +94,8 @@ fn scanned(alloc: Global, text: &[u8]) -> Result<Vec<Token>, TokenFault>
 
 /// The tokens of a text, or its first faulty place.
 ///
-/// The text has at most 65,536 bytes. An `Ok` has the one list of tokens that the text has, and a fault other than `Memory`
-/// is that of the first faulty place. Each comes exactly where it is, unless memory runs out.
+/// The text has at most 65,536 bytes. An `Ok` has the one list of tokens that the text has, and a fault other than
+/// `Memory` is that of the first faulty place. Each comes exactly where it is, unless memory runs out.
 pub fn tokens(alloc: Global, text: &[u8]) -> Result<Vec<Token>, TokenFault>
     requires { length text.now ≤ 65536 }
 

@@ -98,7 +98,10 @@ fn texts_have_tokens_as_in_c(rt: HostRuntime) -> Result<(), Fail> {
         (b"#include <stdio.h>", ""),
         // Names and keywords.
         (b"int f", "int@1:1 'f'@1:5"),
-        (b"ints Int _int in t", "'ints'@1:1 'Int'@1:6 '_int'@1:10 'in'@1:15 't'@1:18"),
+        (
+            b"ints Int _int in t",
+            "'ints'@1:1 'Int'@1:6 '_int'@1:10 'in'@1:15 't'@1:18",
+        ),
         (b"a1_B9", "'a1_B9'@1:1"),
         (b"__mark __mark1", "__mark@1:1 '__mark1'@1:8"),
         // Longest matches.
@@ -111,8 +114,14 @@ fn texts_have_tokens_as_in_c(rt: HostRuntime) -> Result<(), Fail> {
         (b"! =!=", "!@1:1 =@1:3 !=@1:4"),
         (b"?:<:", "unsupported <: 1:3"),
         // Constants.
-        (b"0 00 7 10 017 0x1F 0Xff", "0@1:1 0@1:3 7@1:6 10@1:8 15@1:11 31@1:15 255@1:20"),
-        (b"1l 1L 1ll 1LL 0l 0x1L 07ll", "1@1:1 1@1:4 1@1:7 1@1:11 0@1:15 1@1:18 7@1:23"),
+        (
+            b"0 00 7 10 017 0x1F 0Xff",
+            "0@1:1 0@1:3 7@1:6 10@1:8 15@1:11 31@1:15 255@1:20",
+        ),
+        (
+            b"1l 1L 1ll 1LL 0l 0x1L 07ll",
+            "1@1:1 1@1:4 1@1:7 1@1:11 0@1:15 1@1:18 7@1:23",
+        ),
         (b"0xE+1", "14@1:1 +@1:4 1@1:5"),
         (b"1-1", "1@1:1 -@1:2 1@1:3"),
         (b"9223372036854775807", "9223372036854775807@1:1"),
@@ -133,10 +142,14 @@ fn texts_have_tokens_as_in_c(rt: HostRuntime) -> Result<(), Fail> {
         // Lines and columns.
         (b"\n\n  a\n\tb", "'a'@3:3 'b'@4:2"),
         (b"a\r\nb\x0cc", "'a'@1:1 'b'@2:1 'c'@2:3"),
-        (b"int f(int a){\n  return a;}",
-            "int@1:1 'f'@1:5 (@1:6 int@1:7 'a'@1:11 )@1:12 {@1:13 return@2:3 'a'@2:10 ;@2:11 }@2:12"),
-        (b"/* long */ __mark(3) & (i < n);",
-            "__mark@1:12 (@1:18 3@1:19 )@1:20 &@1:22 (@1:24 'i'@1:25 <@1:27 'n'@1:29 )@1:30 ;@1:31"),
+        (
+            b"int f(int a){\n  return a;}",
+            "int@1:1 'f'@1:5 (@1:6 int@1:7 'a'@1:11 )@1:12 {@1:13 return@2:3 'a'@2:10 ;@2:11 }@2:12",
+        ),
+        (
+            b"/* long */ __mark(3) & (i < n);",
+            "__mark@1:12 (@1:18 3@1:19 )@1:20 &@1:22 (@1:24 'i'@1:25 <@1:27 'n'@1:29 )@1:30 ;@1:31",
+        ),
     ];
     for (text, wanted) in rows {
         assert_eq!(rt; shown(rt.alloc(), text)?.as_str(), wanted, "{wanted}");
@@ -191,7 +204,10 @@ fn faults_stand_at_the_first_place(rt: HostRuntime) -> Result<(), Fail> {
         // The first of two.
         (b"float @", "unsupported float 1:1"),
         (b"@ float", "no token 1:1"),
-        (b"int f(int a){\n  float b; return a;}", "unsupported float 2:3"),
+        (
+            b"int f(int a){\n  float b; return a;}",
+            "unsupported float 2:3",
+        ),
         (b".5", "unsupported . 1:1"),
     ];
     for (text, wanted) in rows {
@@ -201,12 +217,18 @@ fn faults_stand_at_the_first_place(rt: HostRuntime) -> Result<(), Fail> {
 }
 
 // The words and the operators of C, and those of the profile among them.
-const WORDS: &str = "auto break case char const continue default do double else enum extern float for goto if inline int \
+const WORDS: &str =
+    "auto break case char const continue default do double else enum extern float for goto if inline int \
     long register restrict return short signed sizeof static struct switch typedef union unsigned void volatile while \
     _Alignas _Alignof _Atomic _Bool _Complex _Generic _Imaginary _Noreturn _Static_assert _Thread_local";
-const PROFILE_WORDS: &str = "break continue do else extern for if int long return static void while";
-const SIGNS: &str = "[ ] ( ) { } . -> ++ -- & * + - ~ ! / % << >> < > <= >= == != ^ | && || ? : ; ... = *= /= %= += -= \
+
+const PROFILE_WORDS: &str =
+    "break continue do else extern for if int long return static void while";
+
+const SIGNS: &str =
+    "[ ] ( ) { } . -> ++ -- & * + - ~ ! / % << >> < > <= >= == != ^ | && || ? : ; ... = *= /= %= += -= \
     <<= >>= &= ^= |= , # ## <: :> <% %> %: %:%:";
+
 const PROFILE_SIGNS: &str = "( ) { } ; , + - * < <= > >= == != & && || ! ? : = += -= *= ++ --";
 
 #[test]
@@ -219,7 +241,11 @@ fn each_word_and_operator_is_in_the_profile_or_not(rt: HostRuntime) -> Result<()
                 format!(in rt.alloc(); "unsupported {word} 1:2")?
             };
             let text = format!(in rt.alloc(); " {word} ")?;
-            assert_eq!(rt; shown(rt.alloc(), text.as_bytes())?.as_str(), wanted.as_str(), "{word}");
+            assert_eq!(rt;
+                shown(rt.alloc(), text.as_bytes())?.as_str(),
+                wanted.as_str(),
+                "{word}"
+            );
         }
     }
     assert_eq!(rt; WORDS.split_whitespace().count(), keywords().len());

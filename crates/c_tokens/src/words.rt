@@ -22,8 +22,7 @@ fn row_with<'a>(rows: &'a [Row], bytes: &[u8]) -> Option<&'a Row>
 pub fn row_at<'a>(rows: &'a [Row], text: &[u8]) -> Option<&'a Row>
     ensures { option_copied result ≡ find (λ row. starts_with nat_eq text.now row.0.now) rows.now }
 {
-    rows.iter()
-        .find(|row| text.starts_with(row.0.as_bytes()))
+    rows.iter().find(|row| text.starts_with(row.0.as_bytes()))
 }
 
 /// The kind in a row, where the profile has it.

@@ -1,4 +1,4 @@
-use Rattle.std.proofs.Common.{◌≡◌, ◌∙◌, sym}
+use Rattle.std.proofs.Common.{◌∙◌, sym}
 use Rattle.c_tokens.specs.Constants.{constant_of}
 use Rattle.c_tokens.proofs.FoundLaws.{constant_found-is}
 use Rattle.c_tokens.proofs.found.constant_found.Goals as goal

@@ -1,4 +1,4 @@
-use Rattle.std.proofs.Common.{◌≡◌, rules, arith, IfOk, Ok, Err, sym}
+use Rattle.std.proofs.Common.{sym}
 use Rattle.c_tokens.proofs.GapLaws.{line-some, Stands-other_ok, IsWithin-other_ok}
 use Rattle.c_tokens.proofs.found.found_at.Goals as goal
 

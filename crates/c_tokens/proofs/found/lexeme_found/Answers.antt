@@ -1,4 +1,3 @@
-use Rattle.std.proofs.Common.{◌≡◌}
 use Rattle.c_tokens.specs.Bytes.{is_word_byte}
 use Rattle.c_tokens.proofs.ConstantLaws.{prefix-passes}
 use Rattle.c_tokens.proofs.found.lexeme_found.Goals as goal

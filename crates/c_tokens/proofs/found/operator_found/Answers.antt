@@ -1,6 +1,4 @@
-use Rattle.std.proofs.Common.{◌≡◌, ◌∙◌, Option, sym, ap, subst, rules, length}
-use Rattle.c_tokens.specs.declared.kind.Kind.{Kind}
-use Rattle.c_tokens.specs.declared.found.Found.{Found}
+use Rattle.std.proofs.Common.{◌≡◌, ◌∙◌, sym, rules, length}
 use Rattle.c_tokens.specs.Lexemes.{token, found_of}
 use Rattle.c_tokens.proofs.Rows.{row_found-none, row_found-row}
 use Rattle.c_tokens.proofs.found.operator_found.Goals as goal

@@ -1,4 +1,4 @@
-use Rattle.std.proofs.Common.{◌≡◌, ◌+◌, ◌<◌, ◌≤◌, length, drop}
+use Rattle.std.proofs.Common.{◌≡◌, ◌+◌, ◌<◌, ◌≤◌, drop}
 use Rattle.c_tokens.specs.Steps.{after_bytes}
 use Rattle.c_tokens.proofs.place.after_bytes.Given as goal
 

@@ -1,4 +1,4 @@
-use Rattle.std.proofs.Common.{◌≡◌, ◌+◌, ℕ, List, length, drop, arith, refl, ◌≤◌}
+use Rattle.std.proofs.Common.{length, drop, arith, refl, ◌≤◌}
 use Rattle.std.proofs.lemmas.Result.{err_from_is_err_and}
 use Rattle.std.proofs.lemmas.List.{length-drop, length-take}
 use Rattle.c_tokens.specs.Tokens.{IsFault}

@@ -1,4 +1,3 @@
-use Rattle.std.proofs.Common.{refl}
 use Rattle.c_tokens.proofs.Ascii.{Unsupported-utf8}
 use Rattle.c_tokens.proofs.scan.step.Goals as goal
 
