@@ -46,9 +46,9 @@ or_first a b e = rw e refl
 is_in-first : (n x : ℕ) → x < n → is_in (first_variables n) x ≡ true
 is_in-first zero x below = absurd (omega arith)
 is_in-first (suc n) x below = elim (cases_lt x n) [
-    | inl less ↦ or_second (eqb n x) (is_in (first_variables n) x) (is_in-first n x less)
-    | inr more ↦ or_first (eqb n x) (is_in (first_variables n) x) (grind (arith, nat_tests))
-  ]
+  | inl less ↦ or_second (eqb n x) (is_in (first_variables n) x) (is_in-first n x less)
+  | inr more ↦ or_first (eqb n x) (is_in (first_variables n) x) (grind (arith, nat_tests))
+]
 
 -- A spelled expression is over the variables of the list, and each of its constants is at least 0.
 pub Spells-over : (vars : List var_type.Var) (level : ℕ) (a : Expr) (us : List Token) → Spells vars level a us

@@ -1,0 +1,13 @@
+pub mod Both
+pub mod Numbers
+pub mod Behind
+pub mod ConstantLaws
+pub mod WordText
+pub mod Rows
+pub mod LexemeLaws
+pub mod FoundLaws
+pub mod GapLaws
+pub mod Ascii
+pub mod FollowLaws
+pub mod OneAnswer
+pub mod Samples

@@ -1,0 +1,6 @@
+use Rattle.c_tokens.specs.Constants.{is_suffix}
+use Rattle.c_tokens.proofs.constants.is_suffix.Goals as goal
+
+pub returns : goal.returns
+unfolding is_suffix
+returns c = c.is_among.ensures

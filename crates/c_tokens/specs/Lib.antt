@@ -1,0 +1,9 @@
+pub mod Bytes
+pub mod Places
+pub mod Constants
+pub mod Tables
+pub mod Lexemes
+pub mod Scanned
+pub mod Gaps
+pub mod Steps
+pub mod Tokens
