@@ -36,6 +36,7 @@ trace_seen (suc n) i j w env trace is = at (evaluates_narrow (evaluated w) env) 
         let b = behind (record { mark = k; values = values_in (scope_of w) env }) (interpreted n (suc i) w env) trace is in
         ap (with_event j k (values_in (scope_of w) env)) (later (suc i) (suc j) w env b.later b.is) ∙ ap Some b.whole
     on (run.Ends v) is later = let same : no_event v ≡ trace = cc in ap Some same
+
     at : (t : Bool) → cond t (seen_next evaluates_narrow (Some outcome.Wide) at_event returned (interpreted n) i (step w env)) (Some outcome.Wide) ≡ Some (outcome.Returned trace)
         → ((i j : ℕ) (w : Work) (env : List ℤ) (trace : Trace) → interpreted n i w env ≡ Some (outcome.Returned trace) → seen always None with_event no_event n j w env ≡ Some trace)
         → seen_next always None with_event no_event (seen always None with_event no_event n) j (step w env) ≡ Some trace
