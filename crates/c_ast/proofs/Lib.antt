@@ -12,4 +12,5 @@ pub mod InScope
 pub mod Environments
 pub mod Interpreting
 pub mod RunSamples
+pub mod WorkedRuns
 pub mod Outcomes

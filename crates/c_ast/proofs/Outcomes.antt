@@ -1,5 +1,5 @@
 -- What the interpreter returns is the function's trace.
-use Rattle.std.proofs.Common.{◌≡◌, ℕ, zero, suc, Bool, true, false, cond, List, ◌∷◌, Option, Some, None, ℤ, refl, sym, ap, ◌∙◌}
+use Rattle.std.proofs.Common.{◌≡◌, ℕ, zero, suc, Bool, true, false, cond, List, ◌∷◌, Option, Some, None, ℤ, refl, ap, ◌∙◌}
 use Rattle.c_ast.specs.declared.trace.Event.{Event}
 use Rattle.c_ast.specs.declared.trace.Trace.{Trace}
 use Rattle.c_ast.specs.declared.interpreter.Outcome.{Outcome}
@@ -9,7 +9,7 @@ use Rattle.c_ast.specs.Step.{Work, scope_of, values_in, first_variables, step, e
 use Rattle.c_ast.specs.Returns.{always}
 use Rattle.c_ast.specs.Trace.{with_event, no_event}
 use Rattle.c_ast.specs.Shown.{evaluates_narrow}
-use Rattle.c_ast.specs.Interpreted.{with_first, at_event, returned, interpreted, or_cut_off, outcome_within}
+use Rattle.c_ast.specs.Interpreted.{with_first, at_event, returned, interpreted, or_cut_off}
 use Rattle.c_ast.specs.Laws.{OutcomeIsTrace}
 
 -- the trace behind a first event

@@ -1,6 +1,5 @@
 -- The trace of a run that returns.
 use Rattle.std.specs.Prelude.{◌≡◌, ℕ, List, [], ◌∷◌, Option, Some, None, ℤ}
-use Rattle.c_ast.specs.declared.trace.Event.{Event}
 use Rattle.c_ast.specs.declared.trace.Trace.{Trace}
 use Rattle.c_ast.specs.Tree.{Program}
 use Rattle.c_ast.specs.Step.{Work, first_variables, start, spread, seen}
