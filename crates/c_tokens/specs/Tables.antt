@@ -56,18 +56,15 @@ keywords =
     (codes "_Static_assert", None) ∷
     (codes "_Thread_local", None) ∷ []
 
--- the operators and punctuators (ISO C11, 6.4.6), longer ones first
+-- the operators and punctuators (ISO C11, 6.4.6), longer ones first, and of one length those of the profile
 unfoldable pub operators : List Row
 operators =
     (codes "%:%:", None) ∷
     (codes "...", None) ∷
     (codes "<<=", None) ∷
     (codes ">>=", None) ∷
-    (codes "->", None) ∷
     (codes "++", Some k.PlusPlus) ∷
     (codes "--", Some k.MinusMinus) ∷
-    (codes "<<", None) ∷
-    (codes ">>", None) ∷
     (codes "<=", Some k.LessEq) ∷
     (codes ">=", Some k.GreaterEq) ∷
     (codes "==", Some k.Equal) ∷
@@ -75,10 +72,13 @@ operators =
     (codes "&&", Some k.AmpAmp) ∷
     (codes "||", Some k.BarBar) ∷
     (codes "*=", Some k.StarAssign) ∷
-    (codes "/=", None) ∷
-    (codes "%=", None) ∷
     (codes "+=", Some k.PlusAssign) ∷
     (codes "-=", Some k.MinusAssign) ∷
+    (codes "->", None) ∷
+    (codes "<<", None) ∷
+    (codes ">>", None) ∷
+    (codes "/=", None) ∷
+    (codes "%=", None) ∷
     (codes "&=", None) ∷
     (codes "^=", None) ∷
     (codes "|=", None) ∷
@@ -88,30 +88,30 @@ operators =
     (codes "<%", None) ∷
     (codes "%>", None) ∷
     (codes "%:", None) ∷
-    (codes "[", None) ∷
-    (codes "]", None) ∷
     (codes "(", Some k.OpenRound) ∷
     (codes ")", Some k.CloseRound) ∷
     (codes "{", Some k.OpenCurly) ∷
     (codes "}", Some k.CloseCurly) ∷
-    (codes ".", None) ∷
     (codes "&", Some k.Amp) ∷
     (codes "*", Some k.Star) ∷
     (codes "+", Some k.Plus) ∷
     (codes "-", Some k.Minus) ∷
-    (codes "~", None) ∷
     (codes "!", Some k.Bang) ∷
-    (codes "/", None) ∷
-    (codes "%", None) ∷
     (codes "<", Some k.Less) ∷
     (codes ">", Some k.Greater) ∷
-    (codes "^", None) ∷
-    (codes "|", None) ∷
     (codes "?", Some k.Question) ∷
     (codes ":", Some k.Colon) ∷
     (codes ";", Some k.Semicolon) ∷
     (codes "=", Some k.Assign) ∷
     (codes ",", Some k.Comma) ∷
+    (codes "[", None) ∷
+    (codes "]", None) ∷
+    (codes ".", None) ∷
+    (codes "~", None) ∷
+    (codes "/", None) ∷
+    (codes "%", None) ∷
+    (codes "^", None) ∷
+    (codes "|", None) ∷
     (codes "#", None) ∷ []
 
 -- a row of a table of the program

@@ -87,7 +87,7 @@ fn shown(alloc: Global, text: &[u8]) -> Result<String, Fail> {
 
 #[test]
 fn texts_have_tokens_as_in_c(rt: HostRuntime) -> Result<(), Fail> {
-    let rows: [(&[u8], &str); 40] = [
+    let rows: [(&[u8], &str); 41] = [
         // Nothing but gaps.
         (b"", ""),
         (b" \t\n\r\x0b\x0c", ""),
@@ -150,6 +150,13 @@ fn texts_have_tokens_as_in_c(rt: HostRuntime) -> Result<(), Fail> {
             b"/* long */ __mark(3) & (i < n);",
             "__mark@1:12 (@1:18 3@1:19 )@1:20 &@1:22 (@1:24 'i'@1:25 <@1:27 'n'@1:29 )@1:30 ;@1:31",
         ),
+        // A file as users write it.
+        (
+            b"#include <assert.h>\nextern int __mark(int);\n/* a\n sum */\nint f(int n) {\n  int i = 1;\n  while (__mark(42) & (i <= n)) { s += i; i++; }\n}\n",
+            "extern@2:1 int@2:8 __mark@2:12 (@2:18 int@2:19 )@2:22 ;@2:23 int@5:1 'f'@5:5 (@5:6 int@5:7 'n'@5:11 )@5:12 {@5:14 \
+            int@6:3 'i'@6:7 =@6:9 1@6:11 ;@6:12 while@7:3 (@7:9 __mark@7:10 (@7:16 42@7:17 )@7:19 &@7:21 (@7:23 'i'@7:24 <=@7:26 \
+            'n'@7:29 )@7:30 )@7:31 {@7:33 's'@7:35 +=@7:37 'i'@7:40 ;@7:41 'i'@7:43 ++@7:44 ;@7:46 }@7:48 }@8:1",
+        ),
     ];
     for (text, wanted) in rows {
         assert_eq!(rt; shown(rt.alloc(), text)?.as_str(), wanted, "{wanted}");
@@ -159,7 +166,7 @@ fn texts_have_tokens_as_in_c(rt: HostRuntime) -> Result<(), Fail> {
 
 #[test]
 fn faults_stand_at_the_first_place(rt: HostRuntime) -> Result<(), Fail> {
-    let rows: [(&[u8], &str); 41] = [
+    let rows: [(&[u8], &str); 43] = [
         // Bytes that start no token.
         (b"a \" b", "no token 1:3"),
         (b"'a'", "no token 1:1"),
@@ -171,6 +178,7 @@ fn faults_stand_at_the_first_place(rt: HostRuntime) -> Result<(), Fail> {
         (b"a\n \x80", "no token 2:2"),
         (b"\xff", "no token 1:1"),
         (b"int f(int a){return \"a\";}", "no token 1:21"),
+        (b"int f(int a){return a / 2;}", "unsupported / 1:23"),
         // Malformed constants.
         (b"08", "no token 1:1"),
         (b"0x", "no token 1:1"),
@@ -187,6 +195,7 @@ fn faults_stand_at_the_first_place(rt: HostRuntime) -> Result<(), Fail> {
         (b"9223372036854775808u", "no token 1:1"),
         // Constants that are too great.
         (b"9223372036854775808", "range 1:1"),
+        (b"int f(int a){return 9223372036854775808;}", "range 1:21"),
         (b"a\n\t0x8000000000000000", "range 2:2"),
         (b"01000000000000000000000", "range 1:1"),
         (b"99999999999999999999999999999999999999999L", "range 1:1"),
@@ -213,6 +222,21 @@ fn faults_stand_at_the_first_place(rt: HostRuntime) -> Result<(), Fail> {
     for (text, wanted) in rows {
         assert_eq!(rt; shown(rt.alloc(), text)?.as_str(), wanted, "{wanted}");
     }
+    Ok(())
+}
+
+#[test]
+fn a_comment_may_fill_the_longest_text(rt: HostRuntime) -> Result<(), Fail> {
+    let mut text = b"int f(int a){return a;}/*".to_vec(rt.alloc())?;
+    for _ in 0..65_509 {
+        text.push(b'x')?;
+    }
+    text.push(b'*')?;
+    text.push(b'/')?;
+    assert!(rt; text.len() == 65_536);
+    let wanted =
+        "int@1:1 'f'@1:5 (@1:6 int@1:7 'a'@1:11 )@1:12 {@1:13 return@1:14 'a'@1:21 ;@1:22 }@1:23";
+    assert_eq!(rt; shown(rt.alloc(), &text)?.as_str(), wanted);
     Ok(())
 }
 
