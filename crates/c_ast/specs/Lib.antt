@@ -1,5 +1,7 @@
 pub mod Tree
 pub mod View
+pub mod RawTree
+pub mod RawView
 pub mod Value
 pub mod Step
 pub mod Function
