@@ -2,6 +2,7 @@ pub mod Tree
 pub mod View
 pub mod RawTree
 pub mod RawView
+pub mod RawShape
 pub mod Value
 pub mod Step
 pub mod Function
