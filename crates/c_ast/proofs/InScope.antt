@@ -15,38 +15,38 @@ use Rattle.c_ast.proofs.Following.{or_else, work_if, work_after, stands_once}
 
 -- both walks find the mark, and what is set is put in front of the scope; or neither does
 abbrev Agrees : Scope → Option Work → Option Scope → Type 0
-Agrees s None None = Unit {0}
-Agrees s (Some work) (Some before) = scope_of work ≡ before ++ s
-Agrees s None (Some before) = ⊥
-Agrees s (Some work) None = ⊥
+Agrees scope None None = Unit {0}
+Agrees scope (Some work) (Some before) = scope_of work ≡ before ++ scope
+Agrees scope None (Some before) = ⊥
+Agrees scope (Some work) None = ⊥
 
-agrees_or : (s : Scope) (a b : Option Work) (p q : Option Scope) → Agrees s a p → Agrees s b q → Agrees s (or_else a b) (option_or p q)
-agrees_or s None b None q h g = g
-agrees_or s None b (Some before) q h g = absurd h
-agrees_or s (Some work) b None q h g = absurd h
-agrees_or s (Some work) b (Some before) q h g = h
+agrees_or : (scope : Scope) (a b : Option Work) (first second : Option Scope) → Agrees scope a first → Agrees scope b second → Agrees scope (or_else a b) (option_or first second)
+agrees_or scope None b None second agree_a agree_b = agree_b
+agrees_or scope None b (Some before) second agree_a agree_b = absurd agree_a
+agrees_or scope (Some work) b None second agree_a agree_b = absurd agree_a
+agrees_or scope (Some work) b (Some before) second agree_a agree_b = agree_a
 
-agrees_if : (s : Scope) (t : Bool) (work : Work) → scope_of work ≡ s → Agrees s (work_if t work) (none_before t)
-agrees_if s true work h = h
-agrees_if s false work h = tt
+agrees_if : (scope : Scope) (holds : Bool) (work : Work) → scope_of work ≡ scope → Agrees scope (work_if holds work) (none_before holds)
+agrees_if scope true work same = same
+agrees_if scope false work same = tt
 
-agrees_set : (x : ℕ) (s : Scope) (a : Option Work) (p : Option Scope) → Agrees (x ∷ s) a p → Agrees s a (with_set x p)
-agrees_set x s None None h = tt
-agrees_set x s None (Some before) h = absurd h
-agrees_set x s (Some work) None h = absurd h
-agrees_set x s (Some work) (Some before) h = h ∙ sym (append_assoc before (x ∷ []) s)
+agrees_set : (x : ℕ) (scope : Scope) (a : Option Work) (found : Option Scope) → Agrees (x ∷ scope) a found → Agrees scope a (with_set x found)
+agrees_set x scope None None agree = tt
+agrees_set x scope None (Some before) agree = absurd agree
+agrees_set x scope (Some work) None agree = absurd agree
+agrees_set x scope (Some work) (Some before) agree = agree ∙ sym (append_assoc before (x ∷ []) scope)
 
-agrees : (c : Statements) (s : Scope) (w : Work) (k : ℕ) → Agrees s (work_after s c w k) (set_before k c)
-agrees Nil s w k = tt
-agrees (Set x e c) s w k = agrees_set x s _ _ (agrees c (x ∷ s) w k)
-agrees (If e a b c) s w k = agrees_or s _ _ _ _ (agrees a s _ k) (agrees_or s _ _ _ _ (agrees b s _ k) (agrees c s w k))
-agrees (Loop m e b t f c) s w k =
-    agrees_or s _ _ _ _ (agrees_if s (is_mark m k) _ refl) (agrees_or s _ _ _ _ (agrees b s _ k) (agrees_or s _ _ _ _ (agrees t s _ k) (agrees c s w k)))
-agrees (Break c) s w k = agrees c s w k
-agrees (Continue c) s w k = agrees c s w k
-agrees (Return e c) s w k = agrees c s w k
-agrees (Mark j c) s w k = agrees_or s _ _ _ _ (agrees_if s (eqb j k) _ refl) (agrees c s w k)
-agrees (Block a c) s w k = agrees_or s _ _ _ _ (agrees a s _ k) (agrees c s w k)
+agrees : (stmts : Statements) (scope : Scope) (work : Work) (mark : ℕ) → Agrees scope (work_after scope stmts work mark) (set_before mark stmts)
+agrees Nil scope work mark = tt
+agrees (Set x e others) scope work mark = agrees_set x scope _ _ (agrees others (x ∷ scope) work mark)
+agrees (If e a b others) scope work mark = agrees_or scope _ _ _ _ (agrees a scope _ mark) (agrees_or scope _ _ _ _ (agrees b scope _ mark) (agrees others scope work mark))
+agrees (Loop own e body tail first others) scope work mark =
+    agrees_or scope _ _ _ _ (agrees_if scope (is_mark own mark) _ refl) (agrees_or scope _ _ _ _ (agrees body scope _ mark) (agrees_or scope _ _ _ _ (agrees tail scope _ mark) (agrees others scope work mark)))
+agrees (Break others) scope work mark = agrees others scope work mark
+agrees (Continue others) scope work mark = agrees others scope work mark
+agrees (Return e others) scope work mark = agrees others scope work mark
+agrees (Mark own others) scope work mark = agrees_or scope _ _ _ _ (agrees_if scope (eqb own mark) _ refl) (agrees others scope work mark)
+agrees (Block a others) scope work mark = agrees_or scope _ _ _ _ (agrees a scope _ mark) (agrees others scope work mark)
 
 -- what is set before a mark that the function has
 pub record IsBefore (f : Program) (mark : ℕ) (work : Work) : Type 0 where
@@ -54,10 +54,10 @@ pub record IsBefore (f : Program) (mark : ℕ) (work : Work) : Type 0 where
   pub found : set_before mark f.body ≡ Some before
   pub scope : scope_of work ≡ before ++ first_variables f.params
 
-found_before : (s : Scope) (work : Work) (o : Option Work) (p : Option Scope) → o ≡ Some work → Agrees s o p → (before : Scope) × (p ≡ Some before) × (scope_of work ≡ before ++ s)
-found_before s work None p is h = cc
-found_before s work (Some v) None is h = absurd h
-found_before s work (Some v) (Some before) is h = let same : v ≡ work = cc in (before, refl, ap scope_of (sym same) ∙ h)
+found_before : (scope : Scope) (work : Work) (after : Option Work) (found : Option Scope) → after ≡ Some work → Agrees scope after found → (before : Scope) × (found ≡ Some before) × (scope_of work ≡ before ++ scope)
+found_before scope work None found is agree = cc
+found_before scope work (Some other) None is agree = absurd agree
+found_before scope work (Some other) (Some before) is agree = let same : other ≡ work = cc in (before, refl, ap scope_of (sym same) ∙ agree)
 
 pub is_before : (f : Program) → IsProgram f → (mark : ℕ) (work : Work) → Follows f mark work → IsBefore f mark work
 is_before f is mark work follows =

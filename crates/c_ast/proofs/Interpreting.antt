@@ -17,7 +17,8 @@ use Rattle.c_ast.specs.Within.{AreWithin, IsLoopWithin, IsWorkWithin}
 use Rattle.c_ast.specs.Shown.{work_of, bare, bare_next, evaluates_narrow, TakesStep}
 use Rattle.c_ast.specs.Scope.{IsPlace}
 use Rattle.c_ast.specs.Interpreted.{with_first, at_event, returned, interpreted, or_cut_off, outcome_within, IsEvent}
-use Rattle.c_ast.proofs.Places.{Placed, PlacedNext, placed_step, placed_start, HasLength, length_step, spread-length}
+use Rattle.c_ast.proofs.MarksAhead.{IsAhead, IsAheadNext, ahead_next, ahead_at_start}
+use Rattle.c_ast.proofs.Lengths.{HasLength, length-step, length-spread}
 
 -- ---- scopes make no difference to a step, but at marks
 
@@ -206,7 +207,7 @@ after_events-first events event (Some outcome.CutOff) = refl
 pub record Interprets (f : Program) (o : Outcome) (left : ℕ) (events : List Event) (items : List Item) (env : List ℤ) : Type 0 where
   pub work : Work
   pub bare_is : bare work ≡ work_of items
-  pub placed : Placed f work
+  pub placed : IsAhead f work
   pub within : IsWorkWithin f.vars work
   pub size : length env ≡ f.vars
   pub marks : ℕ
@@ -217,9 +218,9 @@ pub begins : (f : Program) → IsProgram f → (inputs : List ℤ) (steps left :
 begins f is inputs steps left items env left_is items_are env_is = record {
   work = start f;
   bare_is = sym items_are;
-  placed = placed_start f;
+  placed = ahead_at_start f;
   within = (formed_within f.body f.vars (first_variables f.params) false (first_below f.params f.vars is.parameters) is.formed, tt);
-  size = ap length env_is ∙ spread-length (first_variables f.params) f.vars inputs;
+  size = ap length env_is ∙ length-spread (first_variables f.params) f.vars inputs;
   marks = 0;
   rest = rw (left_is, env_is) (after_events-none (interpreted steps 0 (start f) (spread (first_variables f.params) f.vars inputs)));
 }
@@ -239,7 +240,7 @@ RestOf left marks x = seen_next evaluates_narrow (Some outcome.Wide) at_event re
 -- a step that is taken, as the run's
 record Taken (f : Program) (o : Outcome) (left : ℕ) (events : List Event) (marks : ℕ) (x y : run.Next) : Type 0 where
   pub is : bare_next x ≡ y
-  pub placed : PlacedNext f x
+  pub placed : IsAheadNext f x
   pub within : NextWithin f.vars x
   pub size : HasLength f.vars x
   pub rest : o ≡ after_events events (RestOf left marks x)
@@ -248,9 +249,9 @@ taken : (f : Program) (o : Outcome) (left left' : ℕ) (events : List Event) (it
     → evaluates_narrow (evaluated (work_of items)) env ≡ true → bare_next (step (work_of items) env) ≡ y → Taken f o left' events i.marks (step i.work env) y
 taken f o left left' events items env y left_is i narrow is = record {
   is = step_same i.work items env i.bare_is ∙ is;
-  placed = placed_step f i.work env i.placed;
+  placed = ahead_next f i.work env i.placed;
   within = within_step f.vars i.work env i.within;
-  size = length_step f.vars i.work env i.size;
+  size = length-step f.vars i.work env i.size;
   rest = i.rest ∙ ap (λ (n : ℕ). after_events events (interpreted n i.marks i.work env)) left_is
       ∙ ap (λ (t : Bool). after_events events (cond t (RestOf left' i.marks (step i.work env)) (Some outcome.Wide))) (narrow_same i.work items env i.bare_is ∙ narrow);
 }
@@ -272,7 +273,7 @@ goes f o left left' events items items' env env' left_is i t = on (step i.work e
 pub record Passed (f : Program) (o : Outcome) (left : ℕ) (events : List Event) (mark : ℕ) (items : List Item) (env : List ℤ) : Type 0 where
   pub work : Work
   pub bare_is : bare work ≡ work_of items
-  pub placed : Placed f work
+  pub placed : IsAhead f work
   pub follows : Follows f mark work
   pub within : IsWorkWithin f.vars work
   pub size : length env ≡ f.vars

@@ -5,6 +5,8 @@ pub mod Samples
 pub mod Runs
 pub mod Following
 pub mod NextPlace
+pub mod MarksAhead
+pub mod Lengths
 pub mod Places
 pub mod Fronts
 pub mod Steps

@@ -15,81 +15,81 @@ use Rattle.c_ast.specs.Laws.{NextPlaceExists}
 
 abbrev PassMarks : Statements → Type 0
 PassMarks Nil = Unit {0}
-PassMarks (Set x e c) = PassMarks c
-PassMarks (If e a b c) = PassMarks a × PassMarks b × PassMarks c
-PassMarks (Loop m e b t f c) = PassesMark m b × PassMarks b × PassMarks t × PassMarks c
-PassMarks (Break c) = PassMarks c
-PassMarks (Continue c) = PassMarks c
-PassMarks (Return e c) = PassMarks c
-PassMarks (Mark k c) = PassMarks c
-PassMarks (Block a c) = PassMarks a × PassMarks c
+PassMarks (Set x e others) = PassMarks others
+PassMarks (If e a b others) = PassMarks a × PassMarks b × PassMarks others
+PassMarks (Loop own e body tail first others) = PassesMark own body × PassMarks body × PassMarks tail × PassMarks others
+PassMarks (Break others) = PassMarks others
+PassMarks (Continue others) = PassMarks others
+PassMarks (Return e others) = PassMarks others
+PassMarks (Mark mark others) = PassMarks others
+PassMarks (Block a others) = PassMarks a × PassMarks others
 
-formed_pass : (c : Statements) (n : ℕ) (s : Scope) (in_loop : Bool) → AreFormed n s in_loop c → PassMarks c
-formed_pass Nil n s in_loop h = tt
-formed_pass (Set x e c) n s in_loop h = formed_pass c n (x ∷ s) in_loop h.2
-formed_pass (If e a b c) n s in_loop h = (formed_pass a n s in_loop h.1, formed_pass b n s in_loop h.2, formed_pass c n s in_loop h.3)
-formed_pass (Loop m e b t f c) n s in_loop h = (h.4, formed_pass b n s true h.1, formed_pass t n s in_loop h.2, formed_pass c n s in_loop h.5)
-formed_pass (Break c) n s in_loop h = formed_pass c n s in_loop h.1
-formed_pass (Continue c) n s in_loop h = formed_pass c n s in_loop h.1
-formed_pass (Return e c) n s in_loop h = formed_pass c n s in_loop h.1
-formed_pass (Mark k c) n s in_loop h = formed_pass c n s in_loop h
-formed_pass (Block a c) n s in_loop h = (formed_pass a n s in_loop h.0, formed_pass c n s in_loop h.1)
+formed_pass : (stmts : Statements) (n : ℕ) (scope : Scope) (in_loop : Bool) → AreFormed n scope in_loop stmts → PassMarks stmts
+formed_pass Nil n scope in_loop formed = tt
+formed_pass (Set x e others) n scope in_loop formed = formed_pass others n (x ∷ scope) in_loop formed.2
+formed_pass (If e a b others) n scope in_loop formed = (formed_pass a n scope in_loop formed.1, formed_pass b n scope in_loop formed.2, formed_pass others n scope in_loop formed.3)
+formed_pass (Loop own e body tail first others) n scope in_loop formed = (formed.4, formed_pass body n scope true formed.1, formed_pass tail n scope in_loop formed.2, formed_pass others n scope in_loop formed.5)
+formed_pass (Break others) n scope in_loop formed = formed_pass others n scope in_loop formed.1
+formed_pass (Continue others) n scope in_loop formed = formed_pass others n scope in_loop formed.1
+formed_pass (Return e others) n scope in_loop formed = formed_pass others n scope in_loop formed.1
+formed_pass (Mark mark others) n scope in_loop formed = formed_pass others n scope in_loop formed
+formed_pass (Block a others) n scope in_loop formed = (formed_pass a n scope in_loop formed.0, formed_pass others n scope in_loop formed.1)
 
 -- the same of a loop, an item and a work
-record LoopPasses (l : LoopParts) : Type 0 where
-  pub turn : PassesMark l.mark l.body
-  pub body : PassMarks l.body
-  pub step : PassMarks l.step
+record LoopPasses (loop : LoopParts) : Type 0 where
+  pub turn : PassesMark loop.mark loop.body
+  pub body : PassMarks loop.body
+  pub step : PassMarks loop.step
 
 abbrev ItemPasses : Item → Type 0
-ItemPasses (Run s c) = PassMarks c
-ItemPasses (Test s l) = LoopPasses l
-ItemPasses (Cond s l) = LoopPasses l
-ItemPasses (Tail s l) = LoopPasses l
+ItemPasses (Run scope others) = PassMarks others
+ItemPasses (Test scope loop) = LoopPasses loop
+ItemPasses (Cond scope loop) = LoopPasses loop
+ItemPasses (Tail scope loop) = LoopPasses loop
 
 abbrev WorkPasses : Work → Type 0
 WorkPasses [] = Unit {0}
-WorkPasses (i ∷ w) = ItemPasses i × WorkPasses w
+WorkPasses (item ∷ work) = ItemPasses item × WorkPasses work
 
-passes_past : (w : Work) → WorkPasses w → WorkPasses (past_tail w)
-passes_past [] h = tt
-passes_past (Run s c ∷ w) h = passes_past w h.1
-passes_past (Test s l ∷ w) h = passes_past w h.1
-passes_past (Cond s l ∷ w) h = passes_past w h.1
-passes_past (Tail s l ∷ w) h = h.1
+passes_past : (work : Work) → WorkPasses work → WorkPasses (past_tail work)
+passes_past [] passes = tt
+passes_past (Run scope others ∷ work) passes = passes_past work passes.1
+passes_past (Test scope loop ∷ work) passes = passes_past work passes.1
+passes_past (Cond scope loop ∷ work) passes = passes_past work passes.1
+passes_past (Tail scope loop ∷ work) passes = passes.1
 
-passes_to : (w : Work) → WorkPasses w → WorkPasses (to_tail w)
-passes_to [] h = tt
-passes_to (Run s c ∷ w) h = passes_to w h.1
-passes_to (Test s l ∷ w) h = passes_to w h.1
-passes_to (Cond s l ∷ w) h = passes_to w h.1
-passes_to (Tail s l ∷ w) h = h
+passes_to : (work : Work) → WorkPasses work → WorkPasses (to_tail work)
+passes_to [] passes = tt
+passes_to (Run scope others ∷ work) passes = passes_to work passes.1
+passes_to (Test scope loop ∷ work) passes = passes_to work passes.1
+passes_to (Cond scope loop ∷ work) passes = passes_to work passes.1
+passes_to (Tail scope loop ∷ work) passes = passes
 
 -- ---- the measure
 
 -- the way from a loop's test to a mark or out of the loop: the body, where it begins with one, costs nothing behind it
 abbrev test_cost : Option ℕ → ℕ → ℕ → ℕ
-test_cost (Some k) front after = 0
+test_cost (Some mark) front after = 0
 test_cost None front after = 2 + (front + after)
 
 -- How many steps these statements may take before a mark or the end is met, where what follows takes `after`, and what a
 -- `break` and a `continue` lead to takes `out` and `again`.
 abbrev cost : Statements → ℕ → ℕ → ℕ → ℕ
 cost Nil after out again = 1 + after
-cost (Set x e c) after out again = 1 + cost c after out again
-cost (If e a b c) after out again =
-    let behind = cost c after out again in
+cost (Set x e others) after out again = 1 + cost others after out again
+cost (If e a b others) after out again =
+    let behind = cost others after out again in
     1 + (cost a behind out again + cost b behind out again)
-cost (Loop m e b t f c) after out again =
-    let behind = cost c after out again in
-    let test = test_cost m (cost b 0 0 0) behind in
-    let tail = 1 + cost t test out again in
-    1 + (test + cost b tail behind tail)
-cost (Break c) after out again = 1 + out
-cost (Continue c) after out again = 1 + again
-cost (Return e c) after out again = 0
-cost (Mark k c) after out again = 0
-cost (Block a c) after out again = 1 + cost a (cost c after out again) out again
+cost (Loop own e body tail first others) after out again =
+    let behind = cost others after out again in
+    let test = test_cost own (cost body 0 0 0) behind in
+    let behind_body = 1 + cost tail test out again in
+    1 + (test + cost body behind_body behind behind_body)
+cost (Break others) after out again = 1 + out
+cost (Continue others) after out again = 1 + again
+cost (Return e others) after out again = 0
+cost (Mark mark others) after out again = 0
+cost (Block a others) after out again = 1 + cost a (cost others after out again) out again
 
 -- the costs of a work, and of what a `break` and a `continue` in front of it lead to
 record Costs : Type 0 where
@@ -98,142 +98,142 @@ record Costs : Type 0 where
   pub again : ℕ
 
 abbrev loop_test : LoopParts → ℕ → ℕ
-loop_test l after = test_cost l.mark (cost l.body 0 0 0) after
+loop_test loop after = test_cost loop.mark (cost loop.body 0 0 0) after
 
 abbrev loop_tail : LoopParts → Costs → ℕ
-loop_tail l k = 1 + cost l.step (loop_test l k.on) k.out k.again
+loop_tail loop costs_behind = 1 + cost loop.step (loop_test loop costs_behind.on) costs_behind.out costs_behind.again
 
 abbrev item_costs : Item → Costs → Costs
-item_costs (Run s c) k = record { on = cost c k.on k.out k.again; out = k.out; again = k.again }
-item_costs (Test s l) k = record { on = loop_test l k.on; out = k.out; again = k.again }
-item_costs (Cond s l) k = record { on = 1 + (cost l.body (loop_tail l k) k.on (loop_tail l k) + k.on); out = k.out; again = k.again }
-item_costs (Tail s l) k = record { on = loop_tail l k; out = k.on; again = loop_tail l k }
+item_costs (Run scope others) behind = record { on = cost others behind.on behind.out behind.again; out = behind.out; again = behind.again }
+item_costs (Test scope loop) behind = record { on = loop_test loop behind.on; out = behind.out; again = behind.again }
+item_costs (Cond scope loop) behind = record { on = 1 + (cost loop.body (loop_tail loop behind) behind.on (loop_tail loop behind) + behind.on); out = behind.out; again = behind.again }
+item_costs (Tail scope loop) behind = record { on = loop_tail loop behind; out = behind.on; again = loop_tail loop behind }
 
 abbrev costs : Work → Costs
 costs [] = record { on = 0; out = 0; again = 0 }
-costs (i ∷ w) = item_costs i (costs w)
+costs (item ∷ work) = item_costs item (costs work)
 
-costs-past : (w : Work) → (costs (past_tail w)).on ≡ (costs w).out
+costs-past : (work : Work) → (costs (past_tail work)).on ≡ (costs work).out
 costs-past [] = refl
-costs-past (Run s c ∷ w) = costs-past w
-costs-past (Test s l ∷ w) = costs-past w
-costs-past (Cond s l ∷ w) = costs-past w
-costs-past (Tail s l ∷ w) = refl
+costs-past (Run scope others ∷ work) = costs-past work
+costs-past (Test scope loop ∷ work) = costs-past work
+costs-past (Cond scope loop ∷ work) = costs-past work
+costs-past (Tail scope loop ∷ work) = refl
 
-costs-to : (w : Work) → (costs (to_tail w)).on ≡ (costs w).again
+costs-to : (work : Work) → (costs (to_tail work)).on ≡ (costs work).again
 costs-to [] = refl
-costs-to (Run s c ∷ w) = costs-to w
-costs-to (Test s l ∷ w) = costs-to w
-costs-to (Cond s l ∷ w) = costs-to w
-costs-to (Tail s l ∷ w) = refl
+costs-to (Run scope others ∷ work) = costs-to work
+costs-to (Test scope loop ∷ work) = costs-to work
+costs-to (Cond scope loop ∷ work) = costs-to work
+costs-to (Tail scope loop ∷ work) = refl
 
 -- what begins with a mark costs the same, whatever follows
-cost-front : (c : Statements) → BeginsWithMark c → (after out again after' out' again' : ℕ) → cost c after out again ≡ cost c after' out' again'
-cost-front Nil h after out again after' out' again' = absurd h
-cost-front (Set x e c) h after out again after' out' again' = absurd h
-cost-front (If e a b c) h after out again after' out' again' = absurd h
-cost-front (Loop m e b t f c) h after out again after' out' again' = absurd h
-cost-front (Break c) h after out again after' out' again' = absurd h
-cost-front (Continue c) h after out again after' out' again' = absurd h
-cost-front (Return e c) h after out again after' out' again' = absurd h
-cost-front (Mark k c) h after out again after' out' again' = refl
-cost-front (Block a c) h after out again after' out' again' =
-    ap (λ (n : ℕ). 1 + n) (cost-front a h (cost c after out again) out again (cost c after' out' again') out' again')
+cost-front : (stmts : Statements) → BeginsWithMark stmts → (after out again after' out' again' : ℕ) → cost stmts after out again ≡ cost stmts after' out' again'
+cost-front Nil begins after out again after' out' again' = absurd begins
+cost-front (Set x e others) begins after out again after' out' again' = absurd begins
+cost-front (If e a b others) begins after out again after' out' again' = absurd begins
+cost-front (Loop own e body tail first others) begins after out again after' out' again' = absurd begins
+cost-front (Break others) begins after out again after' out' again' = absurd begins
+cost-front (Continue others) begins after out again after' out' again' = absurd begins
+cost-front (Return e others) begins after out again after' out' again' = absurd begins
+cost-front (Mark mark others) begins after out again after' out' again' = refl
+cost-front (Block a others) begins after out again after' out' again' =
+    ap (λ (n : ℕ). 1 + n) (cost-front a begins (cost others after out again) out again (cost others after' out' again') out' again')
 
 -- ---- a step that passes no mark falls
 
 -- the step goes on with less work, or meets a place
 abbrev Falls : ℕ → Next → Type 0
-Falls n (Goes w env) = ((costs w).on < n) × WorkPasses w
-Falls n (Passes k w env) = Unit {0}
-Falls n (Ends v) = Unit {0}
+Falls n (Goes work env) = ((costs work).on < n) × WorkPasses work
+Falls n (Passes mark work env) = Unit {0}
+Falls n (Ends value) = Unit {0}
 
-falls_if : (t : Bool) (s : Scope) (e : Expression) (a b c : Statements) (w : Work) (env : List ℤ) → PassMarks a × PassMarks b × PassMarks c → WorkPasses w
-    → Falls (costs (Run s (If e a b c) ∷ w)).on (Goes (Run s (cond t a b) ∷ Run s c ∷ w) env)
-falls_if true s e a b c w env h g = (omega arith, (h.0, (h.2, g)))
-falls_if false s e a b c w env h g = (omega arith, (h.1, (h.2, g)))
+falls_if : (holds : Bool) (scope : Scope) (e : Expression) (a b others : Statements) (work : Work) (env : List ℤ) → PassMarks a × PassMarks b × PassMarks others → WorkPasses work
+    → Falls (costs (Run scope (If e a b others) ∷ work)).on (Goes (Run scope (cond holds a b) ∷ Run scope others ∷ work) env)
+falls_if true scope e a b others work env passes behind = (omega arith, (passes.0, (passes.2, behind)))
+falls_if false scope e a b others work env passes behind = (omega arith, (passes.1, (passes.2, behind)))
 
-falls_enter : (f : Bool) (s : Scope) (m : Option ℕ) (e : Expression) (b t c : Statements) (w : Work) (env : List ℤ) → PassesMark m b × PassMarks b × PassMarks t × PassMarks c → WorkPasses w
-    → Falls (costs (Run s (Loop m e b t f c) ∷ w)).on (Goes (entered f s (record { mark = m; cond = e; body = b; step = t }) (Run s c ∷ w)) env)
-falls_enter true s m e b t c w env h g = (omega arith, (record { turn = h.0; body = h.1; step = h.2 }, (h.3, g)))
-falls_enter false s m e b t c w env h g = (omega arith, (h.1, (record { turn = h.0; body = h.1; step = h.2 }, (h.3, g))))
+falls_enter : (first : Bool) (scope : Scope) (own : Option ℕ) (e : Expression) (body tail others : Statements) (work : Work) (env : List ℤ) → PassesMark own body × PassMarks body × PassMarks tail × PassMarks others → WorkPasses work
+    → Falls (costs (Run scope (Loop own e body tail first others) ∷ work)).on (Goes (entered first scope (record { mark = own; cond = e; body = body; step = tail }) (Run scope others ∷ work)) env)
+falls_enter true scope own e body tail others work env passes behind = (omega arith, (record { turn = passes.0; body = passes.1; step = passes.2 }, (passes.3, behind)))
+falls_enter false scope own e body tail others work env passes behind = (omega arith, (passes.1, (record { turn = passes.0; body = passes.1; step = passes.2 }, (passes.3, behind))))
 
-falls_test : (m : Option ℕ) (s : Scope) (l : LoopParts) (w : Work) (env : List ℤ) → l.mark ≡ m → LoopPasses l → WorkPasses w
-    → Falls (costs (Test s l ∷ w)).on (tested m (Cond s l ∷ w) env)
-falls_test (Some k) s l w env is h g = tt
-falls_test None s l w env is h g =
-    let front : BeginsWithMark l.body = rw is at h.turn in
-    let same : cost l.body (loop_tail l (costs w)) (costs w).on (loop_tail l (costs w)) ≡ cost l.body 0 0 0 = cost-front l.body front _ _ _ _ _ _ in
-    let test : loop_test l (costs w).on ≡ 2 + (cost l.body 0 0 0 + (costs w).on) = rw is in
-    (omega arith, (h, g))
+falls_test : (own : Option ℕ) (scope : Scope) (loop : LoopParts) (work : Work) (env : List ℤ) → loop.mark ≡ own → LoopPasses loop → WorkPasses work
+    → Falls (costs (Test scope loop ∷ work)).on (tested own (Cond scope loop ∷ work) env)
+falls_test (Some mark) scope loop work env is passes behind = tt
+falls_test None scope loop work env is passes behind =
+    let front : BeginsWithMark loop.body = rw is at passes.turn in
+    let same : cost loop.body (loop_tail loop (costs work)) (costs work).on (loop_tail loop (costs work)) ≡ cost loop.body 0 0 0 = cost-front loop.body front _ _ _ _ _ _ in
+    let test : loop_test loop (costs work).on ≡ 2 + (cost loop.body 0 0 0 + (costs work).on) = rw is in
+    (omega arith, (passes, behind))
 
-falls_turn : (t : Bool) (s : Scope) (l : LoopParts) (w : Work) (env : List ℤ) → LoopPasses l → WorkPasses w
-    → Falls (costs (Cond s l ∷ w)).on (Goes (turned t s l w) env)
-falls_turn true s l w env h g = (omega arith, (h.body, (h, g)))
-falls_turn false s l w env h g = (omega arith, g)
+falls_turn : (holds : Bool) (scope : Scope) (loop : LoopParts) (work : Work) (env : List ℤ) → LoopPasses loop → WorkPasses work
+    → Falls (costs (Cond scope loop ∷ work)).on (Goes (turned holds scope loop work) env)
+falls_turn true scope loop work env passes behind = (omega arith, (passes.body, (passes, behind)))
+falls_turn false scope loop work env passes behind = (omega arith, behind)
 
-falls : (w : Work) (env : List ℤ) → WorkPasses w → Falls (costs w).on (step w env)
-falls [] env h = tt
-falls (Run s Nil ∷ w) env h = (omega arith, h.1)
-falls (Run s (Set x e c) ∷ w) env h = (omega arith, h)
-falls (Run s (If e a b c) ∷ w) env h = falls_if (is_nonzero (eval e env)) s e a b c w env h.0 h.1
-falls (Run s (Loop m e b t f c) ∷ w) env h = falls_enter f s m e b t c w env h.0 h.1
-falls (Run s (Break c) ∷ w) env h = (omega (arith, costs-past w), passes_past w h.1)
-falls (Run s (Continue c) ∷ w) env h = (omega (arith, costs-to w), passes_to w h.1)
-falls (Run s (Return e c) ∷ w) env h = tt
-falls (Run s (Mark k c) ∷ w) env h = tt
-falls (Run s (Block a c) ∷ w) env h = (omega arith, (h.0.0, (h.0.1, h.1)))
-falls (Test s l ∷ w) env h = falls_test l.mark s l w env refl h.0 h.1
-falls (Cond s l ∷ w) env h = falls_turn (is_nonzero (eval l.cond env)) s l w env h.0 h.1
-falls (Tail s l ∷ w) env h = (omega arith, (h.0.step, (h.0, h.1)))
+falls : (work : Work) (env : List ℤ) → WorkPasses work → Falls (costs work).on (step work env)
+falls [] env passes = tt
+falls (Run scope Nil ∷ work) env passes = (omega arith, passes.1)
+falls (Run scope (Set x e others) ∷ work) env passes = (omega arith, passes)
+falls (Run scope (If e a b others) ∷ work) env passes = falls_if (is_nonzero (eval e env)) scope e a b others work env passes.0 passes.1
+falls (Run scope (Loop own e body tail first others) ∷ work) env passes = falls_enter first scope own e body tail others work env passes.0 passes.1
+falls (Run scope (Break others) ∷ work) env passes = (omega (arith, costs-past work), passes_past work passes.1)
+falls (Run scope (Continue others) ∷ work) env passes = (omega (arith, costs-to work), passes_to work passes.1)
+falls (Run scope (Return e others) ∷ work) env passes = tt
+falls (Run scope (Mark mark others) ∷ work) env passes = tt
+falls (Run scope (Block a others) ∷ work) env passes = (omega arith, (passes.0.0, (passes.0.1, passes.1)))
+falls (Test scope loop ∷ work) env passes = falls_test loop.mark scope loop work env refl passes.0 passes.1
+falls (Cond scope loop ∷ work) env passes = falls_turn (is_nonzero (eval loop.cond env)) scope loop work env passes.0 passes.1
+falls (Tail scope loop ∷ work) env passes = (omega arith, (passes.0.step, (passes.0, passes.1)))
 
 -- ---- the next place
 
-record Meets (n : ℕ) (w : Work) (env : List ℤ) : Type 0 where
+record Meets (n : ℕ) (work : Work) (env : List ℤ) : Type 0 where
   pub l : Place
   pub e : List ℤ
-  pub met : met_within n w env ≡ Some (l, e)
+  pub met : met_within n work env ≡ Some (l, e)
 
 record MeetsNext (n : ℕ) (next : Next) : Type 0 where
   pub l : Place
   pub e : List ℤ
   pub met : seen_next always None at_mark at_exit (seen always None at_mark at_exit n) 0 next ≡ Some (l, e)
 
-meets : (n : ℕ) (w : Work) (env : List ℤ) → (costs w).on < n → WorkPasses w → Meets n w env
-meets zero w env below h = absurd (omega arith)
-meets (suc n) w env below h = let m = on (step w env) (falls w env h) (λ w env. meets n w env) in record { l = m.l; e = m.e; met = m.met }
+meets : (n : ℕ) (work : Work) (env : List ℤ) → (costs work).on < n → WorkPasses work → Meets n work env
+meets zero work env below passes = absurd (omega arith)
+meets (suc n) work env below passes = let met = on (step work env) (falls work env passes) (λ work env. meets n work env) in record { l = met.l; e = met.e; met = met.met }
   where
-    on : (next : Next) → Falls (costs w).on next → ((v : Work) (env : List ℤ) → (costs v).on < n → WorkPasses v → Meets n v env) → MeetsNext n next
-    on (Goes v env) f later = let m = later v env (omega arith) f.1 in record { l = m.l; e = m.e; met = m.met }
-    on (Passes k v env) f later = record { l = place.Mark k; e = values_in (scope_of v) env; met = refl }
-    on (Ends v) f later = record { l = place.Exit; e = v ∷ []; met = refl }
+    on : (next : Next) → Falls (costs work).on next → ((after : Work) (env : List ℤ) → (costs after).on < n → WorkPasses after → Meets n after env) → MeetsNext n next
+    on (Goes after env) falls_on later = let met = later after env (omega arith) falls_on.1 in record { l = met.l; e = met.e; met = met.met }
+    on (Passes mark after env) falls_on later = record { l = place.Mark mark; e = values_in (scope_of after) env; met = refl }
+    on (Ends value) falls_on later = record { l = place.Exit; e = value ∷ []; met = refl }
 
 -- ---- the work after a mark
 
-stands_passes : (c : Statements) (s : Scope) (w : Work) (k : ℕ) (v : Work) → PassMarks c → WorkPasses w → StandsIn s c w k v → WorkPasses v
-stands_passes Nil s w k v p g h = absurd h
-stands_passes (Set x e c) s w k v p g h = stands_passes c (x ∷ s) w k v p g h
-stands_passes (If e a b c) s w k v p g (inl h) = stands_passes a s _ k v p.0 (p.2, g) h
-stands_passes (If e a b c) s w k v p g (inr (inl h)) = stands_passes b s _ k v p.1 (p.2, g) h
-stands_passes (If e a b c) s w k v p g (inr (inr h)) = stands_passes c s w k v p.2 g h
-stands_passes (Loop m e b t f c) s w k v p g (inl h) = rw h.1 (record { turn = p.0; body = p.1; step = p.2 }, (p.3, g))
-stands_passes (Loop m e b t f c) s w k v p g (inr (inl h)) = stands_passes b s _ k v p.1 (record { turn = p.0; body = p.1; step = p.2 }, (p.3, g)) h
-stands_passes (Loop m e b t f c) s w k v p g (inr (inr (inl h))) = stands_passes t s _ k v p.2 (record { turn = p.0; body = p.1; step = p.2 }, (p.3, g)) h
-stands_passes (Loop m e b t f c) s w k v p g (inr (inr (inr h))) = stands_passes c s w k v p.3 g h
-stands_passes (Break c) s w k v p g h = stands_passes c s w k v p g h
-stands_passes (Continue c) s w k v p g h = stands_passes c s w k v p g h
-stands_passes (Return e c) s w k v p g h = stands_passes c s w k v p g h
-stands_passes (Mark j c) s w k v p g (inl h) = rw h.1 (p, g)
-stands_passes (Mark j c) s w k v p g (inr h) = stands_passes c s w k v p g h
-stands_passes (Block a c) s w k v p g (inl h) = stands_passes a s _ k v p.0 (p.1, g) h
-stands_passes (Block a c) s w k v p g (inr h) = stands_passes c s w k v p.1 g h
+stands_passes : (stmts : Statements) (scope : Scope) (work : Work) (mark : ℕ) (after : Work) → PassMarks stmts → WorkPasses work → StandsIn scope stmts work mark after → WorkPasses after
+stands_passes Nil scope work mark after passes behind stands = absurd stands
+stands_passes (Set x e others) scope work mark after passes behind stands = stands_passes others (x ∷ scope) work mark after passes behind stands
+stands_passes (If e a b others) scope work mark after passes behind (inl stands) = stands_passes a scope _ mark after passes.0 (passes.2, behind) stands
+stands_passes (If e a b others) scope work mark after passes behind (inr (inl stands)) = stands_passes b scope _ mark after passes.1 (passes.2, behind) stands
+stands_passes (If e a b others) scope work mark after passes behind (inr (inr stands)) = stands_passes others scope work mark after passes.2 behind stands
+stands_passes (Loop own e body tail first others) scope work mark after passes behind (inl stands) = rw stands.1 (record { turn = passes.0; body = passes.1; step = passes.2 }, (passes.3, behind))
+stands_passes (Loop own e body tail first others) scope work mark after passes behind (inr (inl stands)) = stands_passes body scope _ mark after passes.1 (record { turn = passes.0; body = passes.1; step = passes.2 }, (passes.3, behind)) stands
+stands_passes (Loop own e body tail first others) scope work mark after passes behind (inr (inr (inl stands))) = stands_passes tail scope _ mark after passes.2 (record { turn = passes.0; body = passes.1; step = passes.2 }, (passes.3, behind)) stands
+stands_passes (Loop own e body tail first others) scope work mark after passes behind (inr (inr (inr stands))) = stands_passes others scope work mark after passes.3 behind stands
+stands_passes (Break others) scope work mark after passes behind stands = stands_passes others scope work mark after passes behind stands
+stands_passes (Continue others) scope work mark after passes behind stands = stands_passes others scope work mark after passes behind stands
+stands_passes (Return e others) scope work mark after passes behind stands = stands_passes others scope work mark after passes behind stands
+stands_passes (Mark own others) scope work mark after passes behind (inl stands) = rw stands.1 (passes, behind)
+stands_passes (Mark own others) scope work mark after passes behind (inr stands) = stands_passes others scope work mark after passes behind stands
+stands_passes (Block a others) scope work mark after passes behind (inl stands) = stands_passes a scope _ mark after passes.0 (passes.1, behind) stands
+stands_passes (Block a others) scope work mark after passes behind (inr stands) = stands_passes others scope work mark after passes.1 behind stands
 
-from_passes : (f : Program) → IsProgram f → (l : Place) (w : Work) → GoesOnFrom f l w → WorkPasses w
-from_passes f is place.Entry w from = rw from (formed_pass f.body f.vars (first_variables f.params) false is.formed, tt)
-from_passes f is (place.Mark k) w from = stands_passes f.body (first_variables f.params) [] k w (formed_pass f.body f.vars (first_variables f.params) false is.formed) tt from
-from_passes f is place.Exit w from = absurd from
+from_passes : (f : Program) → IsProgram f → (l : Place) (work : Work) → GoesOnFrom f l work → WorkPasses work
+from_passes f is place.Entry work from = rw from (formed_pass f.body f.vars (first_variables f.params) false is.formed, tt)
+from_passes f is (place.Mark mark) work from = stands_passes f.body (first_variables f.params) [] mark work (formed_pass f.body f.vars (first_variables f.params) false is.formed) tt from
+from_passes f is place.Exit work from = absurd from
 
 pub next_place_exists : NextPlaceExists
 next_place_exists f is l e work from =
-    let m = meets (suc (costs work).on) work (spread (scope_of work) f.vars e) (omega arith) (from_passes f is l work from) in
-    (m.l, m.e, record { work = work; from = from; steps = suc (costs work).on; met = m.met })
+    let found = meets (suc (costs work).on) work (spread (scope_of work) f.vars e) (omega arith) (from_passes f is l work from) in
+    (found.l, found.e, record { work = work; from = from; steps = suc (costs work).on; met = found.met })

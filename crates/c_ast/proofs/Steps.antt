@@ -1,7 +1,7 @@
 -- The interpreter's steps, a kind at a time, over trees.
 use Rattle.std.proofs.Common.{◌≡◌, ℕ, ◌≤◌, Bool, true, false, cond, List, [], ◌∷◌, length, get_or, take, drop, slice_set, ◌-◌, ◌<◌, take_all, Option, Some, None, ℤ, refl, sym, ap, ◌∙◌, subst, arith}
 use Rattle.c_ast.specs.declared.expr.Expr.{Expr}
-use Rattle.c_ast.specs.declared.stmt.Stmt.{Stmt, Set, If, Loop, Break, Continue, Mark, Block}
+use Rattle.c_ast.specs.declared.stmt.Stmt.{Stmt, Loop, Break, Continue, Mark, Block}
 use Rattle.c_ast.specs.declared.interpreter.Parts.{Parts}
 use Rattle.c_ast.specs.declared.interpreter.Item.{Item}
 use Rattle.c_ast.specs.declared.interpreter.Item.TheVariants as item
@@ -14,7 +14,7 @@ use Rattle.c_ast.specs.View.{expression_of, put_in_front, statements_of}
 use Rattle.c_ast.specs.Narrow.{all_narrow, only_if, narrow_value}
 use Rattle.c_ast.specs.Step as run
 use Rattle.c_ast.specs.Step.{LoopParts, Run, Test, Cond, Tail, Work, past_tail, to_tail, tested, entered, turned, step}
-use Rattle.c_ast.proofs.Fronts.{front-Set, front-If, front-Loop, front-Break, front-Continue, front-Mark, front-Block}
+use Rattle.c_ast.proofs.Fronts.{front-Loop, front-Break, front-Continue, front-Mark, front-Block}
 use Rattle.c_ast.specs.Shown.{loop_of, item_of, work_of, bare, bare_next, TakesStep, IsTested, Cuts}
 
 -- ---- work that is bare already
@@ -59,7 +59,7 @@ value_some e env value given = on (all_narrow e env) refl given
 
 -- ---- a step for each kind of statement
 
-along : (stmts : List Stmt) (c : Statements) (work new : Work) (env env' : List ℤ) (next : Next) → statements_of stmts ≡ c
+pub along : (stmts : List Stmt) (c : Statements) (work new : Work) (env env' : List ℤ) (next : Next) → statements_of stmts ≡ c
     → TakesStep (Run [] c ∷ work) env next new env' → TakesStep (Run [] (statements_of stmts) ∷ work) env next new env'
 along stmts c work new env env' next is takes = subst (λ (z : Statements). TakesStep (Run [] z ∷ work) env next new env') (sym is) takes
 
@@ -67,24 +67,24 @@ pub takes-Nil : (stmts : List Stmt) (env : List ℤ) (items : List Item) → sta
     → TakesStep (Run [] (statements_of stmts) ∷ work_of items) env next.Goes (work_of items) env
 takes-Nil stmts env items is = along stmts _ _ _ env _ next.Goes is (refl, ap (λ (z : Work). run.Goes z env) (bare_work_of items).is)
 
-pub takes-Set : (stmts others : List Stmt) (x : ℕ) (e : Expr) (env : List ℤ) (value : ℤ) (items new : List Item) → statements_of stmts ≡ put_in_front (Set x e) (statements_of others)
+pub takes-Set : (others : List Stmt) (x : ℕ) (e : Expr) (env : List ℤ) (value : ℤ) (items new : List Item)
     → Some value ≡ narrow_value (expression_of e) env → work_of new ≡ Run [] (statements_of others) ∷ work_of items
-    → TakesStep (Run [] (statements_of stmts) ∷ work_of items) env next.Goes (work_of new) (slice_set env x value)
-takes-Set stmts others x e env value items new is given put =
+    → TakesStep (Run [] (tree.Set x (expression_of e) (statements_of others)) ∷ work_of items) env next.Goes (work_of new) (slice_set env x value)
+takes-Set others x e env value items new given put =
     let v = value_some (expression_of e) env value given in
     let bared = (bare_work_of items).is in
     let value_is : value ≡ eval (expression_of e) env = v.is in
-    along stmts (tree.Set x (expression_of e) (statements_of others)) _ _ env _ next.Goes (is ∙ front-Set x e _) (v.narrow, (rw (put, bared, value_is)))
+    (v.narrow, (rw (put, bared, value_is)))
 
-pub takes-If : (stmts others a b c : List Stmt) (e : Expr) (env : List ℤ) (value : ℤ) (items mid new : List Item) → statements_of stmts ≡ put_in_front (If e a b) (statements_of others)
+pub takes-If : (others a b c : List Stmt) (e : Expr) (env : List ℤ) (value : ℤ) (items mid new : List Item)
     → Some value ≡ narrow_value (expression_of e) env → work_of mid ≡ Run [] (statements_of others) ∷ work_of items
     → statements_of c ≡ cond (is_nonzero value) (statements_of a) (statements_of b) → work_of new ≡ Run [] (statements_of c) ∷ work_of mid
-    → TakesStep (Run [] (statements_of stmts) ∷ work_of items) env next.Goes (work_of new) env
-takes-If stmts others a b c e env value items mid new is given put chosen put' =
+    → TakesStep (Run [] (tree.If (expression_of e) (statements_of a) (statements_of b) (statements_of others)) ∷ work_of items) env next.Goes (work_of new) env
+takes-If others a b c e env value items mid new given put chosen put' =
     let v = value_some (expression_of e) env value given in
     let bared = (bare_work_of items).is in
     let value_is : value ≡ eval (expression_of e) env = v.is in
-    along stmts (tree.If (expression_of e) (statements_of a) (statements_of b) (statements_of others)) _ _ env _ next.Goes (is ∙ front-If e a b _) (v.narrow, (rw (put', chosen, put, bared, value_is)))
+    (v.narrow, (rw (put', chosen, put, bared, value_is)))
 
 pub takes-Loop : (stmts others body step : List Stmt) (mark : Option ℕ) (cond : Expr) (test_first : Bool) (loop : LoopParts) (env : List ℤ) (items mid new : List Item)
     → statements_of stmts ≡ put_in_front (Loop mark cond body step test_first) (statements_of others)

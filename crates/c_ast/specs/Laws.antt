@@ -25,7 +25,7 @@ HasOneTrace = (f : Program) (inputs : List ℤ) (s t : Trace) → IsTrace f inpu
 abbrev pub TraceReturns : Type 0
 TraceReturns = (f : Program) (inputs : List ℤ) (value : ℤ) → Returns f inputs value ↔ ((trace : Trace) × IsTrace f inputs trace × (trace.result ≡ value))
 
--- The place where the run goes on with a work is one of the function's: its work is determined.
+-- Two works with which a run goes on from a place are equal.
 abbrev pub WorkIsDetermined : Type 0
 WorkIsDetermined = (f : Program) → IsProgram f → (l : Place) (v w : Work) → GoesOnFrom f l v → GoesOnFrom f l w → v ≡ w
 

@@ -1,5 +1,5 @@
 -- What a function returns.
-use Rattle.std.specs.Prelude.{◌≡◌, ℕ, Bool, true, List, Option, Some, None, ℤ}
+use Rattle.std.specs.Prelude.{◌≡◌, ℕ, Bool, true, List, length, Option, Some, None, ℤ}
 use Rattle.c_ast.specs.Tree.{Expression, Program}
 use Rattle.c_ast.specs.Step.{Work, first_variables, start, spread, seen}
 
@@ -20,3 +20,7 @@ result_within n = seen always None no_mark as_it_is n 0
 pub record Returns (f : Program) (inputs : List ℤ) (value : ℤ) : Type 0 where
   pub steps : ℕ
   pub ends : result_within steps (start f) (spread (first_variables f.params) f.vars inputs) ≡ Some value
+
+-- No inputs, as many as there are parameters, make the two functions return differently.
+abbrev pub NeverDiffer : Program → Program → Type 0
+NeverDiffer f g = (inputs : List ℤ) (v w : ℤ) → length inputs ≡ f.params → Returns f inputs v → Returns g inputs w → v ≡ w

@@ -1,8 +1,9 @@
 //! A plain interpreter over the tree, slow and exact. `step` is one step of a run, and the loop around it knows nothing
 //! of the language. Items of work have no scopes: at a mark the function says which variables are in scope there.
 ghost use Rattle.std.specs.Prelude.{◌≡◌, ◌≤◌, [], ◌∷◌, if◌then◌else◌, length, slice_index_or, pos, OnOk, IfOk};
-ghost use Rattle.c_ast.specs.View.{statements_of};
-ghost use Rattle.c_ast.specs.Value.{is_nonzero};
+ghost use Rattle.c_ast.specs.Tree as tree;
+ghost use Rattle.c_ast.specs.View.{expression_of, statements_of};
+ghost use Rattle.c_ast.specs.Value.{VariablesBelow, is_nonzero};
 ghost use Rattle.c_ast.specs.Step.{Run, Tail, entered, to_tail, first_variables, spread};
 ghost use Rattle.c_ast.specs.Function.{program_of};
 ghost use Rattle.c_ast.specs.Scope.{IsPlace};
@@ -131,6 +132,66 @@ fn branch<'a>(value: i128, a: &'a Items<Stmt>, b: &'a Items<Stmt>) -> &'a [Stmt]
     }
 }
 
+/// The parts of a loop.
+fn parts_of<'a>(
+    mark: Option<u32>,
+    cond: &'a Expr,
+    body: &'a Items<Stmt>,
+    step: &'a Items<Stmt>,
+) -> Parts<'a>
+    ensures { loop_of result ≡ record { mark = mark; cond = expression_of cond.now; body = statements_of body.now; step = statements_of step.now } }
+{
+    Parts {
+        mark,
+        cond,
+        body: body.as_slice(),
+        step: step.as_slice(),
+    }
+}
+
+/// The step of a statement that sets a variable (6.5.16).
+fn run_set<'a>(
+    work: &mut VecDeque<Item<'a>>,
+    x: u32,
+    e: &Expr,
+    others: &'a [Stmt],
+    environment: &mut [i128],
+) -> Result<Next, AllocError>
+    requires { AreWithin (length environment.old) (tree.Set x (expression_of e.now) (statements_of others.now)) }
+    ensures { IfOk result (λ next. TakesStep
+        (Run [] (tree.Set x (expression_of e.now) (statements_of others.now)) ∷ work_of work.old.items) environment.old
+        next (work_of work.new.items) environment.new) }
+{
+    let Some(value) = value_of(e, environment) else {
+        return Ok(Next::Wide);
+    };
+    environment[x as usize] = value;
+    put(work, Item::Run(others))?;
+    Ok(Next::Goes)
+}
+
+/// The step of an `if` (6.8.4.1).
+fn run_if<'a>(
+    work: &mut VecDeque<Item<'a>>,
+    e: &Expr,
+    a: &'a Items<Stmt>,
+    b: &'a Items<Stmt>,
+    others: &'a [Stmt],
+    environment: &[i128],
+) -> Result<Next, AllocError>
+    requires { VariablesBelow (length environment.now) (expression_of e.now) }
+    ensures { IfOk result (λ next. TakesStep
+        (Run [] (tree.If (expression_of e.now) (statements_of a.now) (statements_of b.now) (statements_of others.now))
+        ∷ work_of work.old.items) environment.now next (work_of work.new.items) environment.now) }
+{
+    let Some(value) = value_of(e, environment) else {
+        return Ok(Next::Wide);
+    };
+    put(work, Item::Run(others))?;
+    put(work, Item::Run(branch(value, a, b)))?;
+    Ok(Next::Goes)
+}
+
 /// A step at the front of a list of statements.
 fn run_first<'a>(
     work: &mut VecDeque<Item<'a>>,
@@ -146,22 +207,8 @@ fn run_first<'a>(
         return Ok(Next::Goes);
     };
     match first {
-        Stmt::Set(x, e) => {
-            let Some(value) = value_of(e, environment) else {
-                return Ok(Next::Wide);
-            };
-            environment[*x as usize] = value;
-            put(work, Item::Run(others))?;
-            Ok(Next::Goes)
-        }
-        Stmt::If(e, a, b) => {
-            let Some(value) = value_of(e, environment) else {
-                return Ok(Next::Wide);
-            };
-            put(work, Item::Run(others))?;
-            put(work, Item::Run(branch(value, a, b)))?;
-            Ok(Next::Goes)
-        }
+        Stmt::Set(x, e) => run_set(work, *x, e, others, environment),
+        Stmt::If(e, a, b) => run_if(work, e, a, b, others, environment),
         Stmt::Loop {
             mark,
             cond,
@@ -169,12 +216,7 @@ fn run_first<'a>(
             step,
             test_first,
         } => {
-            let parts = Parts {
-                mark: *mark,
-                cond,
-                body: body.as_slice(),
-                step: step.as_slice(),
-            };
+            let parts = parts_of(*mark, cond, body, step);
             put(work, Item::Run(others))?;
             enter(work, parts, *test_first)?;
             Ok(Next::Goes)

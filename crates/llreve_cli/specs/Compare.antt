@@ -5,7 +5,7 @@ use Rattle.c_ast.specs.Tree.{Expression}
 use Rattle.c_ast.specs.View.{expression_of}
 use Rattle.c_ast.specs.Value.{eval}
 use Rattle.c_ast.specs.Function.{Function, ReturnsOne, program_of}
-use Rattle.c_ast.specs.Returns.{Returns}
+use Rattle.c_ast.specs.Returns.{NeverDiffer}
 use Rattle.lin_terms.specs.declared.form.Form.{Form}
 use Rattle.llreve_cli.specs.declared.outcome.Outcome.{Outcome}
 use Rattle.llreve_cli.specs.declared.outcome.Outcome.TheVariants.{Equivalent, Unknown, Refused}
@@ -23,11 +23,6 @@ pub record HaveEqualForms (f g : Function) : Type 0 where
   pub second_returned : ReturnsOne g second
   pub one_form : HaveOneForm f.params (expression_of first) (expression_of second)
 
--- No values of the parameters make the two functions return differently.
-abbrev pub NeverDiffer : Function → Function → Type 0
-NeverDiffer f g =
-    (inputs : List ℤ) (v w : ℤ) → length inputs ≡ f.params → Returns (program_of f) inputs v → Returns (program_of g) inputs w → v ≡ w
-
 -- The test says whether the two expressions have one form; where it holds, they have the same value at each point.
 pub record AreSame (same : Bool) (count : ℕ) (first second : Expression) : Type 0 where
   pub one_form : IsTrue same ↔ HaveOneForm count first second
@@ -35,6 +30,6 @@ pub record AreSame (same : Bool) (count : ℕ) (first second : Expression) : Typ
 
 -- What comparing two functions tells: one number of parameters, and whether the forms are equal.
 abbrev pub Compares : Function → Function → Outcome → Type 0
-Compares f g Equivalent = (f.params ≡ g.params) × HaveEqualForms f g × NeverDiffer f g
+Compares f g Equivalent = (f.params ≡ g.params) × HaveEqualForms f g × NeverDiffer (program_of f) (program_of g)
 Compares f g Unknown = (f.params ≡ g.params) × (¬ HaveEqualForms f g)
 Compares f g (Refused fault) = ⊥

@@ -9,7 +9,9 @@ use Rattle.llreve_cli.specs.declared.fault.Fault.TheVariants.{Usage, Read, TooLo
 use Rattle.llreve_cli.specs.declared.outcome.Outcome.{Outcome}
 use Rattle.llreve_cli.specs.declared.outcome.Outcome.TheVariants.{Equivalent, Unknown, Refused}
 use Rattle.llreve_cli.specs.Words.{operands}
-use Rattle.llreve_cli.specs.Compare.{HaveEqualForms, NeverDiffer}
+use Rattle.c_ast.specs.Function.{program_of}
+use Rattle.c_ast.specs.Returns.{NeverDiffer}
+use Rattle.llreve_cli.specs.Compare.{HaveEqualForms}
 
 -- These bytes were read: they are the told text, where one is told, and not too long.
 pub record IsRead (told : Option (List ℕ)) (bytes : List ℕ) : Type 0 where
@@ -39,7 +41,7 @@ pub record AreEquivalent (words : List (List ℕ)) (text : List ℕ → Option (
   pub functions : AreFunctions words text
   pub arity : functions.first.params ≡ functions.second.params
   pub forms : HaveEqualForms functions.first functions.second
-  pub never_differ : NeverDiffer functions.first functions.second
+  pub never_differ : NeverDiffer (program_of functions.first) (program_of functions.second)
 
 -- One case an outcome, in the order in which they are judged: each case says that none before it holds.
 pub data Leads (words : List (List ℕ)) (text : List ℕ → Option (List ℕ)) (before after : List ℕ → ℕ) : Outcome → Type 0 where

@@ -2,7 +2,9 @@
 ghost use Rattle.std.specs.Prelude.{◌≡◌, ◌↔◌, IfOk, IfErr, IsTrue};
 ghost use Rattle.c_ast.specs.Value.{VariablesBelow};
 ghost use Rattle.c_ast.specs.View.{expression_of};
-ghost use Rattle.llreve_cli.specs.Compare.{HaveEqualForms, NeverDiffer, AreSame, Compares};
+ghost use Rattle.c_ast.specs.Function.{program_of};
+ghost use Rattle.c_ast.specs.Returns.{NeverDiffer};
+ghost use Rattle.llreve_cli.specs.Compare.{HaveEqualForms, AreSame, Compares};
 ghost use Rattle.llreve_cli.specs.Stops.{StopsComparing};
 
 use crate::fault::Fault;
@@ -40,7 +42,7 @@ fn have_equal_forms(
 fn are_equivalent(alloc: Global, first: &Func, second: &Func) -> Result<bool, AllocError>
     requires { first.now.params ≡ second.now.params }
     ensures forms { IfOk result (λ same. IsTrue same ↔ HaveEqualForms first.now second.now) }
-    ensures never_differ { IfOk result (λ same. IsTrue same → NeverDiffer first.now second.now) }
+    ensures never_differ { IfOk result (λ same. IsTrue same → NeverDiffer (program_of first.now) (program_of second.now)) }
 {
     let (Some(left), Some(right)) = (first.returned(), second.returned()) else {
         return Ok(false);

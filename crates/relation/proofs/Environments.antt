@@ -5,6 +5,7 @@ use Rattle.c_ast.specs.Tree.{Expression, Num, Var, Un, Bin, Cond}
 use Rattle.c_ast.specs.Value.{eval, unary_value, is_nonzero}
 use Rattle.c_ast.specs.Step.{Scope, is_in, with_value, values_from, values_in, spread_one, spread_from, spread}
 use Rattle.c_ast.specs.Formed.{IsOver}
+use Rattle.c_ast.proofs.Lengths.{length-spread_from}
 
 -- Two environments of n variables agree on the variables in scope.
 pub record Agree (n : ℕ) (scope : Scope) (a b : List ℤ) : Type 0 where
@@ -79,28 +80,6 @@ agree_set n scope a b x v w e same = subst (λ (z : ℤ). Agree n (x ∷ scope) 
         ∙ sym (get_or-set_other b x y v (pos 0) (λ p. eqb-false x y is (sym p)))
 
 -- ---- the values in scope
-
-pub length-values_from : (scope : Scope) (i : ℕ) (a b : List ℤ) → length a ≡ length b
-    → length (values_from scope i a) ≡ length (values_from scope i b)
-length-values_from scope i [] [] long = refl
-length-values_from scope i [] (w ∷ b) long = cc
-length-values_from scope i (v ∷ a) [] long = cc
-length-values_from scope i (v ∷ a) (w ∷ b) long = more (is_in scope i) (length-values_from scope (suc i) a b (omega arith))
-  where
-    more : (t : Bool) → length (values_from scope (suc i) a) ≡ length (values_from scope (suc i) b)
-        → length (with_value t v (values_from scope (suc i) a)) ≡ length (with_value t w (values_from scope (suc i) b))
-    more true e = ap suc e
-    more false e = e
-
-pub length-spread_from : (scope : Scope) (i n : ℕ) (values : List ℤ) → length (spread_from scope i n values) ≡ n
-length-spread_from scope i zero values = refl
-length-spread_from scope i (suc n) values = more (is_in scope i) values (length-spread_from scope (suc i) n)
-  where
-    more : (t : Bool) (values : List ℤ) → ((left : List ℤ) → length (spread_from scope (suc i) n left) ≡ n)
-        → length (spread_one t values (spread_from scope (suc i) n)) ≡ suc n
-    more true [] long = ap suc (long [])
-    more true (v ∷ values) long = ap suc (long values)
-    more false values long = ap suc (long values)
 
 -- The values in scope, spread again, are where they were.
 spread-values : (scope : Scope) (i : ℕ) (a : List ℤ) (x : ℕ) → is_in scope (i + x) ≡ true

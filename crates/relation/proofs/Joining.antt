@@ -8,12 +8,13 @@ use Rattle.c_ast.specs.Returns.{always, no_mark, as_it_is, Returns}
 use Rattle.c_ast.specs.Segment.{Follows, at_mark, at_exit, met_within}
 use Rattle.c_ast.specs.Formed.{IsProgram}
 use Rattle.relation.specs.Segments.{LeadsOut}
-use Rattle.relation.proofs.Environments.{Agree, within_itself, agree_itself, agree_both, agree_spread, length-spread_from}
+use Rattle.c_ast.proofs.Lengths.{length-spread_from}
+use Rattle.relation.proofs.Environments.{Agree, within_itself, agree_itself, agree_both, agree_spread}
 use Rattle.relation.proofs.Nesting.{formed_reads}
-use Rattle.relation.proofs.MarksAhead.{ahead_at_start}
+use Rattle.c_ast.proofs.MarksAhead.{ahead_at_start}
 use Rattle.relation.proofs.Stepping.{IsReady, AreAlike, step_alike}
 use Rattle.relation.proofs.Splitting.{result_after, leads_from_exit}
-use Rattle.relation.proofs.OneSegment.{follows_once}
+use Rattle.c_ast.proofs.Following.{follows_once}
 
 abbrev Met : Type 0
 Met = Place × List ℤ

@@ -1,11 +1,9 @@
 pub mod Environments
 pub mod Nesting
-pub mod MarksAhead
 pub mod Stepping
 pub mod Splitting
 pub mod Moving
 pub mod Values
 pub mod Following
-pub mod OneSegment
 pub mod Joining
 pub mod Samples

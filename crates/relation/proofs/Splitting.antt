@@ -8,9 +8,10 @@ use Rattle.c_ast.specs.Returns.{always, no_mark, as_it_is, Returns}
 use Rattle.c_ast.specs.Segment.{at_mark, at_exit, met_within, FitsPlace, IsSegment}
 use Rattle.c_ast.specs.Formed.{IsProgram}
 use Rattle.relation.specs.Segments.{LeadsOut}
-use Rattle.relation.proofs.Environments.{within_itself, agree_itself, agree_both, agree_spread, length-values_from, length-spread_from}
+use Rattle.c_ast.proofs.Lengths.{length-values_from, length-spread_from}
+use Rattle.relation.proofs.Environments.{within_itself, agree_itself, agree_both, agree_spread}
 use Rattle.relation.proofs.Nesting.{formed_reads}
-use Rattle.relation.proofs.MarksAhead.{ahead_at_start}
+use Rattle.c_ast.proofs.MarksAhead.{ahead_at_start}
 use Rattle.relation.proofs.Stepping.{IsReady, AreAlike, step_alike}
 
 -- the result of at most n steps, where some marks were passed before

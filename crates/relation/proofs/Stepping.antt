@@ -6,7 +6,7 @@ use Rattle.c_ast.specs.Step.{Scope, LoopParts, Run, Test, Cond, Tail, Work, scop
 use Rattle.c_ast.specs.Segment.{Follows}
 use Rattle.relation.proofs.Environments.{Agree, within_itself, within_more, agree_within, eval_agree, agree_set}
 use Rattle.relation.proofs.Nesting.{Nested, nested_within, nested-past_tail, nested-to_tail}
-use Rattle.relation.proofs.MarksAhead.{Keeps, IsAhead, ahead_kept, keeps-past_tail, keeps-to_tail, keeps_below, keeps_both, keeps_set, keeps_branch, keeps-entered, keeps-turned, keeps_tested, keeps_tail, keeps_mark, keeps_block}
+use Rattle.c_ast.proofs.MarksAhead.{Keeps, IsAhead, ahead_kept, keeps-past_tail, keeps-to_tail, keeps_below, keeps_both, keeps_set, keeps_branch, keeps-entered, keeps-turned, keeps_tested, keeps_tail, keeps_mark, keeps_block}
 
 -- The work reads what is in scope alone, the environments agree on that, and the marks ahead are the function's.
 pub record IsReady (f : Program) (scope : Scope) (work : Work) (a b : List ℤ) : Type 0 where

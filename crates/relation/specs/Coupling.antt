@@ -4,7 +4,7 @@ use Rattle.c_ast.specs.declared.place.Place.{Place}
 use Rattle.c_ast.specs.declared.place.Place.TheVariants as place
 use Rattle.c_ast.specs.Tree.{Program}
 use Rattle.c_ast.specs.Formed.{IsProgram}
-use Rattle.c_ast.specs.Returns.{Returns}
+use Rattle.c_ast.specs.Returns.{NeverDiffer}
 use Rattle.c_ast.specs.Segment.{FitsPlace}
 use Rattle.alignment.specs.Number.{IsAlignment}
 use Rattle.alignment.specs.Moves.{Moves}
@@ -27,10 +27,6 @@ pub record IsCoupling (f g : Program) (alignment : ℕ) (family : Family) : Type
   pub kept : (l r l' r' : Place) (d e d' e' : List ℤ) → node l r ≢ node place.Exit place.Exit → FitsPlace f l d → FitsPlace g r e
       → InFamily family (node l r) (d ++ e) → Moves f g alignment l r d e l' r' d' e' → InFamily family (node l' r') (d' ++ e')
   pub at_exits : IsSomeAnd (atoms_at family (node place.Exit place.Exit)) ForcesEqualResults
-
--- No inputs make the two functions return differently.
-abbrev pub NeverDiffer : Program → Program → Type 0
-NeverDiffer f g = (inputs : List ℤ) (v w : ℤ) → length inputs ≡ f.params → Returns f inputs v → Returns g inputs w → v ≡ w
 
 -- Where a family couples two functions with as many parameters, no inputs make the two return differently.
 abbrev pub LawOfCouplings : Type 0

@@ -16,8 +16,3 @@ LeadsOut f l e (suc n) result = FitsPlace f l e × (l' : Place) × (e' : List �
 abbrev pub LawOfSegments : Type 0
 LawOfSegments = (f : Program) (inputs : List ℤ) (result : ℤ) → IsProgram f → length inputs ≡ f.params
     → (Returns f inputs result ↔ ((n : ℕ) × LeadsOut f place.Entry inputs n result))
-
--- From a place with its values at most one segment leads on.
-abbrev pub LawOfOneSegment : Type 0
-LawOfOneSegment = (f : Program) → IsProgram f → (l : Place) (e : List ℤ) (l' r' : Place) (e' d' : List ℤ)
-    → IsSegment f l e l' e' → IsSegment f l e r' d' → (l' ≡ r') × (e' ≡ d')

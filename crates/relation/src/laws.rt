@@ -1,11 +1,6 @@
 //! Laws of the definitions alone. Each is the contract of a call that does nothing.
 ghost use Rattle.relation.specs.Coupling.{LawOfCouplings};
-ghost use Rattle.relation.specs.Segments.{LawOfOneSegment, LawOfSegments};
-
-/// The place that a segment ends at, and the values there, are determined.
-pub fn law_of_one_segment()
-    ensures { LawOfOneSegment }
-{}
+ghost use Rattle.relation.specs.Segments.{LawOfSegments};
 
 /// A run that returns is a list of segments, from the entry to the exit, and each such list makes a run.
 pub fn law_of_segments()

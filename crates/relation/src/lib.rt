@@ -7,4 +7,4 @@
 
 mod laws;
 
-pub use laws::{law_of_couplings, law_of_one_segment, law_of_segments};
+pub use laws::{law_of_couplings, law_of_segments};

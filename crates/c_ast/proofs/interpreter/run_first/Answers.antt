@@ -1,32 +1,35 @@
 -- Each kind of statement takes the step that its tree takes.
-use Rattle.std.proofs.Common.{to_z-of_z, FitsSigned, rules}
-use Rattle.std.specs.Int.{w128}
+use Rattle.std.proofs.Common.{IfOk, [], ◌∷◌, sym, ◌∙◌, subst}
+use Rattle.c_ast.specs.Tree.{Statements}
+use Rattle.c_ast.specs.Step.{Run}
+use Rattle.c_ast.specs.Shown.{work_of, TakesStep}
+use Rattle.c_ast.proofs.Fronts.{front-Set, front-If}
 use Rattle.c_ast.specs.declared.stmt.Stmt.{Set, If, Loop, Break, Continue, Mark, Block}
-use Rattle.c_ast.proofs.Steps.{first_of, none_of, takes-Nil, takes-Set, takes-If, takes-Loop, takes-Break, takes-Continue, takes-Mark, takes-Block}
+use Rattle.c_ast.proofs.Steps.{first_of, none_of, takes-Nil, takes-Loop, takes-Break, takes-Continue, takes-Mark, takes-Block}
 use Rattle.c_ast.proofs.interpreter.run_first.Goals as goal
 
 pub returns-in_default : goal.returns-in_default
 returns-in_default c = takes-Nil c.args.stmts.now c.args.environment.now c.args.work.now.items (none_of c.args.stmts.now c.in_default.len_below)
 
-pub returns-in_ok-put-in-Set : goal.returns-in_ok-put-in-Set
-returns-in_ok-put-in-Set c =
-    let fits : FitsSigned w128 c.in-Some.value = search rules in
+pub returns-in-Set : goal.returns-in-Set
+returns-in-Set c =
     let is = first_of c.args.stmts.now c.first-item.result (Set c.in-Set.x c.in-Set.e) c.in-len1-up.len_at_least c.first-item.is c.in-Set.is in
-    rw (to_z-of_z fits)
-    (takes-Set c.args.stmts.now _ c.in-Set.x c.in-Set.e c.args.environment.now c.in-Some.value c.args.work.now.items c.put.new.work.items is c.in-Some.ensures.value c.in_ok-put-in-Set.ensures)
+    subst (λ (stmts : Statements). IfOk c.run_set.result (λ next. TakesStep (Run [] stmts ∷ work_of c.args.work.now.items)
+    c.args.environment.now next (work_of c.run_set.new.work.items) c.run_set.new.environment))
+    (sym (is ∙ front-Set c.in-Set.x c.in-Set.e _)) c.run_set.ensures
 
-pub returns-in_ok-put-in-If-2 : goal.returns-in_ok-put-in-If-2
-returns-in_ok-put-in-If-2 c =
-    let fits : FitsSigned w128 c.in-Some-value_of.value = search rules in
+pub returns-in-If : goal.returns-in-If
+returns-in-If c =
     let is = first_of c.args.stmts.now c.first-item.result (If c.in-If.e c.in-If.a c.in-If.b) c.in-len1-up.len_at_least c.first-item.is c.in-If.is in
-    takes-If c.args.stmts.now _ c.in-If.a c.in-If.b c.branch-value.result.now c.in-If.e c.args.environment.now c.in-Some-value_of.value c.args.work.now.items c.put-in-If.new.work.items c.put-in-If-2.new.work.items is
-    c.in-Some-value_of.ensures.value c.in_ok-put-in-If.ensures (simp to_z-of_z at c.branch-value.ensures) c.in_ok-put-in-If-2.ensures
+    subst (λ (stmts : Statements). IfOk c.run_if.result (λ next. TakesStep (Run [] stmts ∷ work_of c.args.work.now.items)
+    c.args.environment.now next (work_of c.run_if.new.work.items) c.args.environment.now))
+    (sym (is ∙ front-If c.in-If.e c.in-If.a c.in-If.b _)) c.run_if.ensures
 
 pub returns-in_ok-enter-in-Loop : goal.returns-in_ok-enter-in-Loop
 returns-in_ok-enter-in-Loop c =
     let is = first_of c.args.stmts.now c.first-item.result (Loop c.in-Loop.mark c.in-Loop.cond c.in-Loop.body c.in-Loop.step c.in-Loop.test_first) c.in-len1-up.len_at_least c.first-item.is c.in-Loop.is in
-    takes-Loop c.args.stmts.now _ c.in-Loop.body c.in-Loop.step c.in-Loop.mark c.in-Loop.cond c.in-Loop.test_first _ c.args.environment.now c.args.work.now.items c.put-in-Loop.new.work.items c.enter.new.work.items is
-    (rw (c.as_slice.ensures, c.as_slice-in-Loop.ensures)) c.in_ok-put-in-Loop.ensures c.in_ok-enter-in-Loop.ensures
+    takes-Loop c.args.stmts.now _ c.in-Loop.body c.in-Loop.step c.in-Loop.mark c.in-Loop.cond c.in-Loop.test_first _ c.args.environment.now c.args.work.now.items c.put.new.work.items c.enter.new.work.items is
+    c.parts_of-parts.ensures c.in_ok-put-in-Loop.ensures c.in_ok-enter-in-Loop.ensures
 
 pub returns-in-Break : goal.returns-in-Break
 returns-in-Break c =
@@ -46,5 +49,5 @@ returns-in_ok-put-in-Mark c =
 pub returns-in_ok-put-in-Block-2 : goal.returns-in_ok-put-in-Block-2
 returns-in_ok-put-in-Block-2 c =
     let is = first_of c.args.stmts.now c.first-item.result (Block c.in-Block.a) c.in-len1-up.len_at_least c.first-item.is c.in-Block.is in
-    takes-Block c.args.stmts.now _ c.in-Block.a c.as_slice-in-Block.result.now c.args.environment.now c.args.work.now.items c.put-in-Block.new.work.items c.put-in-Block-2.new.work.items is
-    c.in_ok-put-in-Block.ensures c.as_slice-in-Block.ensures c.in_ok-put-in-Block-2.ensures
+    takes-Block c.args.stmts.now _ c.in-Block.a c.as_slice.result.now c.args.environment.now c.args.work.now.items c.put-in-Block.new.work.items c.put-in-Block-2.new.work.items is
+    c.in_ok-put-in-Block.ensures c.as_slice.ensures c.in_ok-put-in-Block-2.ensures
