@@ -3,13 +3,12 @@
 use Rattle.std.specs.Prelude.{◌≡◌, ◌≢◌, ℕ, ◌≤◌, List, length, Option, Some, None}
 use Rattle.re_base.specs.Causes.{Rose}
 use Rattle.re_base.specs.Told.{IsWhole, IsLong}
-use Rattle.c_ast.specs.Function.{Function}
+use Rattle.c_ast.specs.Function.{Function, program_of}
 use Rattle.c_reader.specs.Reads.{Reads}
 use Rattle.llreve_cli.specs.declared.fault.Fault.TheVariants.{Usage, Read, TooLong, Grammar, Arity}
 use Rattle.llreve_cli.specs.declared.outcome.Outcome.{Outcome}
 use Rattle.llreve_cli.specs.declared.outcome.Outcome.TheVariants.{Equivalent, Unknown, Refused}
 use Rattle.llreve_cli.specs.Words.{operands}
-use Rattle.c_ast.specs.Function.{program_of}
 use Rattle.c_ast.specs.Returns.{NeverDiffer}
 use Rattle.llreve_cli.specs.Compare.{HaveEqualForms}
 
