@@ -7,7 +7,8 @@ use Rattle.c_ast.specs.Tree.{Expression, Num, Statements, Program}
 use Rattle.c_ast.specs.Value.{eval, is_nonzero}
 use Rattle.c_ast.specs.Step.{Scope, LoopParts, Run, Test, Cond, Tail, Work, scope_of, Next, past_tail, to_tail, tested, entered, turned, step, values_in, evaluated, seen_next, seen}
 use Rattle.c_ast.specs.Segment.{Follows}
-use Rattle.c_ast.proofs.Places.{Placed, PlacedNext, placed_step, HasLength, length_step}
+use Rattle.c_ast.proofs.MarksAhead.{IsAhead, IsAheadNext, ahead_next}
+use Rattle.c_ast.proofs.Lengths.{HasLength, length-step}
 use Rattle.flow_graph.specs.Operation.{Operation, Set, Branch, Mark, Return}
 use Rattle.flow_graph.specs.FlowGraph.{FlowGraph, operation_at, variables_at}
 use Rattle.flow_graph.specs.Run.{Turn, Goes, Passes, Ends, turn, operand, values_of, seen_turn, seen_at, seen_from}
@@ -190,10 +191,10 @@ module _ {R : Type 0} (holds : Option Expression → List ℤ → Bool) (failed 
     pub is : seen holds failed pass done steps m w env ≡ Some r
 
   abbrev pub Forward : ℕ → Type 0
-  Forward i = (m : ℕ) (w : Work) (n b t : ℕ) (env : List ℤ) (r : R) → Placed f w → length env ≡ f.vars → WorkLaid at w n b t → S i m w env ≡ Some r → OfGraph m n env r
+  Forward i = (m : ℕ) (w : Work) (n b t : ℕ) (env : List ℤ) (r : R) → IsAhead f w → length env ≡ f.vars → WorkLaid at w n b t → S i m w env ≡ Some r → OfGraph m n env r
 
   abbrev pub Backward : ℕ → Type 0
-  Backward j = (m : ℕ) (w : Work) (n b t : ℕ) (env : List ℤ) (r : R) → Placed f w → length env ≡ f.vars → WorkLaid at w n b t → G j m n env ≡ Some r → OfSource m w env r
+  Backward j = (m : ℕ) (w : Work) (n b t : ℕ) (env : List ℤ) (r : R) → IsAhead f w → length env ≡ f.vars → WorkLaid at w n b t → G j m n env ≡ Some r → OfSource m w env r
 
   same_pass : (m k j : ℕ) (w : Work) (a b : List ℤ) → k ≡ j → a ≡ b → values_of (variables_at graph (place.Mark k)) a ≡ values_in (scope_of w) a → (o : Option R)
       → pass m j (values_of (variables_at graph (place.Mark j)) b) o ≡ pass m k (values_in (scope_of w) a) o
@@ -202,7 +203,7 @@ module _ {R : Type 0} (holds : Option Expression → List ℤ → Bool) (failed 
       ∙ ap (λ (v : List ℤ). pass m k (values_of (variables_at graph (place.Mark k)) v) o) (sym q)
       ∙ ap (λ (v : List ℤ). pass m k v o) e
 
-  forward_step : (i m : ℕ) (r : R) (x : Next) (y : Turn) → PlacedNext f x → HasLength f.vars x → Beside at x y → Forward i → S-next i m x ≡ Some r → (j : ℕ) × (G-turn j m y ≡ Some r)
+  forward_step : (i m : ℕ) (r : R) (x : Next) (y : Turn) → IsAheadNext f x → HasLength f.vars x → Beside at x y → Forward i → S-next i m x ≡ Some r → (j : ℕ) × (G-turn j m y ≡ Some r)
   forward_step i m r (Next.Goes w a) (Goes n b) p len q go h =
       let o = go m w n q.1.b q.1.t a r p len q.1.laid h in
       (o.steps, ap (G o.steps m n) (sym q.0) ∙ o.is)
@@ -231,7 +232,7 @@ module _ {R : Type 0} (holds : Option Expression → List ℤ → Bool) (failed 
       let t : holds (evaluated w) env ≡ true = ap (λ (o : Option Expression). holds o env) e ∙ accepts.by env in
       ap (λ (z : Bool). cond z (S-next i m (step w env)) failed) t
 
-  forward_wait : (i m : ℕ) (r : R) (w : Work) (n : ℕ) (env : List ℤ) (x : Next) → PlacedNext f x → length env ≡ f.vars → Waits at w n env x → Forward i → S-next i m x ≡ Some r → OfGraph m n env r
+  forward_wait : (i m : ℕ) (r : R) (w : Work) (n : ℕ) (env : List ℤ) (x : Next) → IsAheadNext f x → length env ≡ f.vars → Waits at w n env x → Forward i → S-next i m x ≡ Some r → OfGraph m n env r
   forward_wait i m r w n env (Next.Goes v a) p len q go h = go m v n q.1.b q.1.t env r p len q.1.laid (ap (S i m v) (sym q.0) ∙ h)
   forward_wait i m r w n env (Next.Passes k v a) p len q go h = absurd q
   forward_wait i m r w n env (Next.Ends v) p len q go h = absurd q
@@ -242,20 +243,20 @@ module _ {R : Type 0} (holds : Option Expression → List ℤ → Bool) (failed 
   same_test : (w : Work) (env : List ℤ) (op : Operation) → evaluated w ≡ operand op → holds (evaluated w) env ≡ holds (operand op) env
   same_test w env op e = ap (λ (o : Option Expression). holds o env) e
 
-  forward_does : (i m : ℕ) (r : R) (w : Work) (n : ℕ) (env : List ℤ) → Placed f w → length env ≡ f.vars → Does at w (step w env) n env → Forward i → S (suc i) m w env ≡ Some r → OfGraph m n env r
+  forward_does : (i m : ℕ) (r : R) (w : Work) (n : ℕ) (env : List ℤ) → IsAhead f w → length env ≡ f.vars → Does at w (step w env) n env → Forward i → S (suc i) m w env ≡ Some r → OfGraph m n env r
   forward_does i m r w n env p len q go h =
-      let o = both (holds (evaluated w) env) (holds (operand q.op) env) (S-next i m (step w env)) (λ j. G-turn j m (turn q.op env)) failed r (same_test w env q.op q.same) h (forward_step i m r (step w env) (turn q.op env) (placed_step f w env p) (length_step f.vars w env len) q.beside go) in
+      let o = both (holds (evaluated w) env) (holds (operand q.op) env) (S-next i m (step w env)) (λ j. G-turn j m (turn q.op env)) failed r (same_test w env q.op q.same) h (forward_step i m r (step w env) (turn q.op env) (ahead_next f w env p) (length-step f.vars w env len) q.beside go) in
       record { steps = suc o.0; is = at_op o.0 m n env q.op q.is ∙ o.1 }
 
   pub forward : (i : ℕ) → Forward i
   forward zero m w n b t env r p len l h = cc
   forward (suc i) m w n b t env r p len l h =
       elim (step_moves at w n b t env l) [
-        | inl q ↦ forward_wait i m r w n env (step w env) (placed_step f w env p) len q.0 (forward i) (sym (unrefused i m w env q.1) ∙ h)
+        | inl q ↦ forward_wait i m r w n env (step w env) (ahead_next f w env p) len q.0 (forward i) (sym (unrefused i m w env q.1) ∙ h)
         | inr q ↦ forward_does i m r w n env p len q (forward i) h
       ]
 
-  backward_step : (j m : ℕ) (r : R) (x : Next) (y : Turn) → PlacedNext f x → HasLength f.vars x → Beside at x y → Backward j → G-turn j m y ≡ Some r → (i : ℕ) × (S-next i m x ≡ Some r)
+  backward_step : (j m : ℕ) (r : R) (x : Next) (y : Turn) → IsAheadNext f x → HasLength f.vars x → Beside at x y → Backward j → G-turn j m y ≡ Some r → (i : ℕ) × (S-next i m x ≡ Some r)
   backward_step j m r (Next.Goes w a) (Goes n b) p len q go h =
       let o = go m w n q.1.b q.1.t b r p (ap length (sym q.0) ∙ len) q.1.laid h in
       (o.steps, ap (S o.steps m w) q.0 ∙ o.is)
@@ -278,29 +279,29 @@ module _ {R : Type 0} (holds : Option Expression → List ℤ → Bool) (failed 
   backward_step j m r (Next.Ends u) (Goes n b) p len q go h = absurd q
   backward_step j m r (Next.Ends u) (Passes k n b) p len q go h = absurd q
 
-  backward_wait : (m : ℕ) (r : R) (w : Work) (n : ℕ) (env : List ℤ) (x : Next) → PlacedNext f x → Waits at w n env x
-      → ((v : Work) (b t : ℕ) → load v < load w → Placed f v → WorkLaid at v n b t → OfSource m v env r) → (i : ℕ) × (S-next i m x ≡ Some r)
+  backward_wait : (m : ℕ) (r : R) (w : Work) (n : ℕ) (env : List ℤ) (x : Next) → IsAheadNext f x → Waits at w n env x
+      → ((v : Work) (b t : ℕ) → load v < load w → IsAhead f v → WorkLaid at v n b t → OfSource m v env r) → (i : ℕ) × (S-next i m x ≡ Some r)
   backward_wait m r w n env (Next.Goes v a) p q go =
       let o = go v q.1.b q.1.t q.2 p q.1.laid in
       (o.steps, ap (S o.steps m v) q.0 ∙ o.is)
   backward_wait m r w n env (Next.Passes k v a) p q go = absurd q
   backward_wait m r w n env (Next.Ends v) p q go = absurd q
 
-  backward_does : (j m : ℕ) (r : R) (w : Work) (n : ℕ) (env : List ℤ) → Placed f w → length env ≡ f.vars → Does at w (step w env) n env → Backward j → G (suc j) m n env ≡ Some r → OfSource m w env r
+  backward_does : (j m : ℕ) (r : R) (w : Work) (n : ℕ) (env : List ℤ) → IsAhead f w → length env ≡ f.vars → Does at w (step w env) n env → Backward j → G (suc j) m n env ≡ Some r → OfSource m w env r
   backward_does j m r w n env p len q go h =
-      let o = both (holds (operand q.op) env) (holds (evaluated w) env) (G-turn j m (turn q.op env)) (λ i. S-next i m (step w env)) failed r (sym (same_test w env q.op q.same)) (sym (at_op j m n env q.op q.is) ∙ h) (backward_step j m r (step w env) (turn q.op env) (placed_step f w env p) (length_step f.vars w env len) q.beside go) in
+      let o = both (holds (operand q.op) env) (holds (evaluated w) env) (G-turn j m (turn q.op env)) (λ i. S-next i m (step w env)) failed r (sym (same_test w env q.op q.same)) (sym (at_op j m n env q.op q.is) ∙ h) (backward_step j m r (step w env) (turn q.op env) (ahead_next f w env p) (length-step f.vars w env len) q.beside go) in
       record { steps = suc o.0; is = o.1 }
 
   -- the graph's step comes after finitely many steps of the work
-  backward_from : (j : ℕ) → Backward j → (fuel m : ℕ) (w : Work) (n b t : ℕ) (env : List ℤ) (r : R) → load w ≤ fuel → Placed f w → length env ≡ f.vars → WorkLaid at w n b t → G (suc j) m n env ≡ Some r → OfSource m w env r
+  backward_from : (j : ℕ) → Backward j → (fuel m : ℕ) (w : Work) (n b t : ℕ) (env : List ℤ) (r : R) → load w ≤ fuel → IsAhead f w → length env ≡ f.vars → WorkLaid at w n b t → G (suc j) m n env ≡ Some r → OfSource m w env r
   backward_from j go zero m w n b t env r le p len l h =
       elim (step_moves at w n b t env l) [
-        | inl q ↦ (let o = backward_wait m r w n env (step w env) (placed_step f w env p) q.0 (λ v c u lt pv lv. absurd (omega arith)) in record { steps = suc o.0; is = unrefused o.0 m w env q.1 ∙ o.1 })
+        | inl q ↦ (let o = backward_wait m r w n env (step w env) (ahead_next f w env p) q.0 (λ v c u lt pv lv. absurd (omega arith)) in record { steps = suc o.0; is = unrefused o.0 m w env q.1 ∙ o.1 })
         | inr q ↦ backward_does j m r w n env p len q go h
       ]
   backward_from j go (suc fuel) m w n b t env r le p len l h =
       elim (step_moves at w n b t env l) [
-        | inl q ↦ (let o = backward_wait m r w n env (step w env) (placed_step f w env p) q.0 (λ v c u lt pv lv. backward_from j go fuel m v n c u env r (omega arith) pv len lv h) in record { steps = suc o.0; is = unrefused o.0 m w env q.1 ∙ o.1 })
+        | inl q ↦ (let o = backward_wait m r w n env (step w env) (ahead_next f w env p) q.0 (λ v c u lt pv lv. backward_from j go fuel m v n c u env r (omega arith) pv len lv h) in record { steps = suc o.0; is = unrefused o.0 m w env q.1 ∙ o.1 })
         | inr q ↦ backward_does j m r w n env p len q go h
       ]
 

@@ -23,7 +23,8 @@ use Rattle.c_ast.specs.Formed.{marks}
 use Rattle.c_ast.specs.Scope.{IsPlace, variables_in}
 use Rattle.c_ast.specs.Shown.{evaluates_narrow}
 use Rattle.c_ast.specs.Interpreted.{returned}
-use Rattle.c_ast.proofs.Places.{Placed, placed_start, placed_after, spread-length}
+use Rattle.c_ast.proofs.MarksAhead.{IsAhead, ahead_at_start, ahead_after}
+use Rattle.c_ast.proofs.Lengths.{length-spread}
 use Rattle.c_ast.proofs.Environments.{values_in-listed}
 use Rattle.flow_graph.specs.declared.op.Op.{Op}
 use Rattle.flow_graph.specs.declared.stop.Stop.{Stop}
@@ -257,7 +258,7 @@ module _ (f : Function) (is : IsFunction f) (ops : List Op) (entry : ℕ) (out :
       b : ℕ
       t : ℕ
       laid : WorkLaid at w (node_after graph l) b t
-      placed : Placed program w
+      placed : IsAhead program w
       from : GoesOnAt graph l
       scope : variables_at graph l ≡ variables_in (scope_of w) (length f.vars)
 
@@ -266,13 +267,13 @@ module _ (f : Function) (is : IsFunction f) (ops : List Op) (entry : ℕ) (out :
       b = 0;
       t = 0;
       laid = subst (λ (z : Work). WorkLaid at z entry 0 0) (sym from) (0, laid, (end, end, end));
-      placed = subst (λ (z : Work). Placed program z) (sym from) (placed_start program);
+      placed = subst (λ (z : Work). IsAhead program z) (sym from) (ahead_at_start program);
       from = tt;
       scope = ap (λ (z : Work). variables_in (scope_of z) (length f.vars)) (sym from);
     }
     starts (place.Mark mark) w from =
         let k = knows mark w from in
-        record { b = k.b; t = k.t; laid = k.laid; placed = placed_after program mark w from; from = k.known; scope = k.scope }
+        record { b = k.b; t = k.t; laid = k.laid; placed = ahead_after program mark w from; from = k.known; scope = k.scope }
     starts place.Exit w from = absurd from
 
     values_same : (l : Place) (w : Work) → Starts l w → (e : List ℤ) → spread (variables_at graph l) (length f.vars) e ≡ spread (scope_of w) (length f.vars) e
@@ -293,28 +294,28 @@ module _ (f : Function) (is : IsFunction f) (ops : List Op) (entry : ℕ) (out :
           → OfGraph holds failed pass done accepts program graph shows 0 (node_after graph l) (spread (variables_at graph l) (length f.vars) e) r
       to_graph l w from e r steps is =
           let s = starts l w from in
-          forward holds failed pass done accepts program graph shows steps 0 w (node_after graph l) s.b s.t (spread (variables_at graph l) (length f.vars) e) r s.placed (spread-length (variables_at graph l) (length f.vars) e) s.laid
+          forward holds failed pass done accepts program graph shows steps 0 w (node_after graph l) s.b s.t (spread (variables_at graph l) (length f.vars) e) r s.placed (length-spread (variables_at graph l) (length f.vars) e) s.laid
           (ap (seen holds failed pass done steps 0 w) (values_same l w s e) ∙ is)
 
       to_source : (l : Place) (w : Work) → GoesOnFrom program l w → (e : List ℤ) (r : R) (steps : ℕ) → seen_from holds failed pass done graph steps 0 (node_after graph l) (spread (variables_at graph l) (length f.vars) e) ≡ Some r
           → OfSource holds failed pass done accepts program graph shows 0 w (spread (scope_of w) (length f.vars) e) r
       to_source l w from e r steps is =
           let s = starts l w from in
-          backward holds failed pass done accepts program graph shows steps 0 w (node_after graph l) s.b s.t (spread (scope_of w) (length f.vars) e) r s.placed (spread-length (scope_of w) (length f.vars) e) s.laid
+          backward holds failed pass done accepts program graph shows steps 0 w (node_after graph l) s.b s.t (spread (scope_of w) (length f.vars) e) r s.placed (length-spread (scope_of w) (length f.vars) e) s.laid
           (ap (seen_from holds failed pass done graph steps 0 (node_after graph l)) (sym (values_same l w s e)) ∙ is)
 
       -- from the entry, where the parameters have values
       begin_graph : (inputs : List ℤ) (r : R) (steps : ℕ) → seen holds failed pass done steps 0 (start program) (spread (first_variables f.params) (length f.vars) inputs) ≡ Some r
           → OfGraph holds failed pass done accepts program graph shows 0 entry (spread (first_variables f.params) (length f.vars) inputs) r
       begin_graph inputs r steps is =
-          forward holds failed pass done accepts program graph shows steps 0 (start program) entry 0 0 (spread (first_variables f.params) (length f.vars) inputs) r (placed_start program)
-          (spread-length (first_variables f.params) (length f.vars) inputs) (0, laid, (end, end, end)) is
+          forward holds failed pass done accepts program graph shows steps 0 (start program) entry 0 0 (spread (first_variables f.params) (length f.vars) inputs) r (ahead_at_start program)
+          (length-spread (first_variables f.params) (length f.vars) inputs) (0, laid, (end, end, end)) is
 
       begin_source : (inputs : List ℤ) (r : R) (steps : ℕ) → seen_from holds failed pass done graph steps 0 entry (spread (first_variables f.params) (length f.vars) inputs) ≡ Some r
           → OfSource holds failed pass done accepts program graph shows 0 (start program) (spread (first_variables f.params) (length f.vars) inputs) r
       begin_source inputs r steps is =
-          backward holds failed pass done accepts program graph shows steps 0 (start program) entry 0 0 (spread (first_variables f.params) (length f.vars) inputs) r (placed_start program)
-          (spread-length (first_variables f.params) (length f.vars) inputs) (0, laid, (end, end, end)) is
+          backward holds failed pass done accepts program graph shows steps 0 (start program) entry 0 0 (spread (first_variables f.params) (length f.vars) inputs) r (ahead_at_start program)
+          (length-spread (first_variables f.params) (length f.vars) inputs) (0, laid, (end, end, end)) is
 
     always_accepts : AcceptsNone always
     always_accepts = record { by = λ env. refl }

@@ -14,7 +14,7 @@ use Rattle.c_ast.specs.Narrow.{is_narrow}
 use Rattle.c_ast.specs.Step.{first_variables, spread}
 use Rattle.c_ast.specs.Shown.{evaluates_narrow}
 use Rattle.c_ast.specs.Interpreted.{with_first, returned}
-use Rattle.c_ast.proofs.Places.{spread-length}
+use Rattle.c_ast.proofs.Lengths.{length-spread}
 use Rattle.flow_graph.specs.declared.op.Op.{Op}
 use Rattle.flow_graph.specs.Operation.{Operation, Set, Branch, Mark, Return, operation_of}
 use Rattle.flow_graph.specs.FlowGraph.{FlowGraph, operation_at, scope_of_stop, variables_at, HasPlace}
@@ -153,7 +153,7 @@ begins g inputs env limit node arity narrow env_is node_is below =
     let start : env ≡ spread (first_variables g.params) g.vars inputs = env_is ∙ ap (λ (n : ℕ). spread (first_variables n) g.vars inputs) arity in
     record {
       below = below;
-      size = ap length start ∙ spread-length (first_variables g.params) g.vars inputs;
+      size = ap length start ∙ length-spread (first_variables g.params) g.vars inputs;
       narrow = subst AreNarrow (sym start) (spread_narrow (first_variables g.params) 0 g.vars inputs narrow);
       passed = λ k d below. absurd (omega arith);
       within = omega arith;
