@@ -1,7 +1,3 @@
-pub mod Answers
-pub mod Bytes
-pub mod Words
-pub mod Tokens
+pub mod Faults
 pub mod Expressions
-pub mod Parameters
-pub mod Reads
+pub mod ReadExpressions
