@@ -1,3 +1,4 @@
+pub mod Faults
 pub mod Expressions
 pub mod ReadExpressions
 pub mod Declarations

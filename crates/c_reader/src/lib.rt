@@ -1,7 +1,13 @@
-//! Reads tokens as the functions of a file.
+//! Reads the tokens of a file as its functions.
+//!
+//! Tokens go in, and the tree that they spell comes out, or the fault that no tree of at most the greatest depth spells
+//! them. Recursive descent, with one loop for the binary operators (`expression`). `specs/Expressions.antt` says which
+//! tokens spell which expression (ISO C11, 6.5).
 #![tactic(auto)]
 
+mod expression;
 mod fault;
+mod operators;
 mod sign;
 
 pub use fault::ReadFault;

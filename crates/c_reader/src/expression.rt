@@ -1,0 +1,235 @@
+//! Expressions (ISO C11, 6.5.1 to 6.5.15), by recursive descent.
+ghost use Rattle.std.specs.Prelude.{◌≡◌, ℕ, suc, ◌+◌, ◌-◌, ◌<◌, ◌≤◌, ◌^◌, max, List, length, Some, None, IfOk, IfErr, IfSome, option_map};
+ghost use Rattle.c_ast.specs.RawTree.{Un, Bin, Cond};
+ghost use Rattle.c_ast.specs.RawView.{raw_expression_of};
+ghost use Rattle.c_reader.specs.Expressions.{expression_depth};
+ghost use Rattle.c_reader.specs.Faults.{Refuses};
+ghost use Rattle.c_reader.specs.ReadExpressions.{next_operator, operand_at, level_at, expression_at, IsDeeper};
+
+use crate::ReadFault;
+use crate::operators::{LOOSEST, operator_of, unary_of};
+use c_ast::{BinOp, RawExpr, UnOp};
+use c_tokens::{Kind, Token};
+use sqlite_items::Boxed;
+use std::alloc::Global;
+
+/// An expression, and its depth.
+#[derive(Drop)]
+pub struct Tree {
+    pub expr: RawExpr,
+    pub depth: u32,
+    ghost measured: { depth ≡ expression_depth (raw_expression_of expr) },
+}
+
+/// A binary operator of a level or a tighter one at the front: its level, its operation, its line, and the tokens
+/// behind it.
+fn next_operator(level: u32, tokens: &[Token]) -> Option<(u32, BinOp, u32, &[Token])>
+    ensures next { option_map (λ x. (x.0, x.1, x.2, x.3.now)) result ≡ next_operator level tokens.now }
+    ensures shorter { IfSome result (λ x. length x.3.now < length tokens.now) }
+    ensures level { IfSome result (λ x. x.0 ≤ 6) }
+{
+    let (token, behind) = tokens.split_first()?;
+    let (at, op) = operator_of(&token.kind)?;
+    if level <= at {
+        Some((at, op, token.line, behind))
+    } else {
+        None
+    }
+}
+
+fn leaf(expr: RawExpr) -> Tree
+    requires { expression_depth (raw_expression_of expr) ≡ 1 }
+    ensures { result.expr ≡ expr }
+{
+    Tree { expr, depth: 1 }
+}
+
+// The depth of an expression whose deepest part has this one, unless there is no room for it.
+fn above(room: u32, depth: u32) -> Result<u32, ReadFault>
+    ensures above { IfOk result (λ above. above ≡ depth + 1) }
+    ensures within { IfOk result (λ above. above ≤ room) }
+    ensures refused { IfErr result (Refuses (room < depth + 1)) }
+{
+    if depth < room {
+        Ok(depth + 1)
+    } else {
+        Err(ReadFault::Grammar)
+    }
+}
+
+// A sign with its operand.
+fn signed(alloc: Global, room: u32, op: UnOp, operand: Tree) -> Result<Tree, ReadFault>
+    ensures made { IfOk result (λ tree.
+        raw_expression_of tree.expr ≡ Un op (raw_expression_of operand.expr)) }
+    ensures within { IfOk result (λ tree. tree.depth ≤ room) }
+    ensures refused { IfErr result (Refuses (room < operand.depth + 1)) }
+{
+    let depth = above(room, operand.depth)?;
+    let operand = Boxed::new(alloc, operand.expr)?;
+    Ok(Tree {
+        expr: RawExpr::Un(op, operand),
+        depth,
+    })
+}
+
+// An operation with its line and its operands.
+fn joined(
+    alloc: Global,
+    room: u32,
+    op: BinOp,
+    line: u32,
+    left: Tree,
+    right: Tree,
+) -> Result<Tree, ReadFault>
+    ensures made { IfOk result (λ tree. raw_expression_of tree.expr
+        ≡ Bin op line (raw_expression_of left.expr) (raw_expression_of right.expr)) }
+    ensures within { IfOk result (λ tree. tree.depth ≤ room) }
+    ensures refused { IfErr result (Refuses (room < max left.depth right.depth + 1)) }
+{
+    let depth = above(room, left.depth.max(right.depth))?;
+    let left = Boxed::new(alloc, left.expr)?;
+    let right = Boxed::new(alloc, right.expr)?;
+    Ok(Tree {
+        expr: RawExpr::Bin(op, line, left, right),
+        depth,
+    })
+}
+
+// A choice with its condition and its values.
+fn chosen(
+    alloc: Global,
+    room: u32,
+    cond: Tree,
+    first: Tree,
+    second: Tree,
+) -> Result<Tree, ReadFault>
+    ensures made { IfOk result (λ tree. raw_expression_of tree.expr
+        ≡ Cond (raw_expression_of cond.expr) (raw_expression_of first.expr) (raw_expression_of second.expr)) }
+    ensures within { IfOk result (λ tree. tree.depth ≤ room) }
+    ensures refused { IfErr result (Refuses (room < max cond.depth (max first.depth second.depth) + 1)) }
+{
+    let depth = above(room, cond.depth.max(first.depth.max(second.depth)))?;
+    let cond = Boxed::new(alloc, cond.expr)?;
+    let first = Boxed::new(alloc, first.expr)?;
+    let second = Boxed::new(alloc, second.expr)?;
+    Ok(Tree {
+        expr: RawExpr::Cond(cond, first, second),
+        depth,
+    })
+}
+
+// primary: name, constant, or "(" expr ")"
+// unary: primary, or ("+" | "-" | "!") unary
+#[cycle(expression)]
+fn read_operand<'a>(
+    alloc: Global,
+    room: u32,
+    tokens: &'a [Token],
+) -> Result<(Tree, &'a [Token]), ReadFault>
+    ensures read { IfOk result (λ x.
+        operand_at tokens.now ≡ Some (raw_expression_of x.0.expr, x.1.now)) }
+    ensures within { IfOk result (λ x. x.0.depth ≤ room) }
+    ensures shorter { IfOk result (λ x. length x.1.now < length tokens.now) }
+    ensures refused { IfErr result (Refuses (IsDeeper room (operand_at tokens.now))) }
+{
+    if room == 0 {
+        return Err(ReadFault::Grammar);
+    }
+    let Some((token, others)) = tokens.split_first() else {
+        return Err(ReadFault::Grammar);
+    };
+    match &token.kind {
+        Kind::Word(name) => Ok((leaf(RawExpr::Var(name.copy()?, token.line)), others)),
+        Kind::Constant(value) if *value <= i64::MAX as u64 => {
+            Ok((leaf(RawExpr::Num(*value as i64)), others))
+        }
+        Kind::OpenRound => {
+            let (inside, after) = read_expression(alloc, room, others)?;
+            let [
+                Token {
+                    kind: Kind::CloseRound,
+                    ..
+                },
+                after @ ..,
+            ] = after
+            else {
+                return Err(ReadFault::Grammar);
+            };
+            Ok((inside, after))
+        }
+        kind => {
+            let Some(op) = unary_of(kind) else {
+                return Err(ReadFault::Grammar);
+            };
+            let (operand, after) = read_operand(alloc, room - 1, others)?;
+            Ok((signed(alloc, room, op, operand)?, after))
+        }
+    }
+}
+
+// The operations of a level and of tighter ones.
+//
+// Each right operand is of the level above its operator's, so equal levels group to the left.
+#[cycle(expression)]
+fn read_level<'a>(
+    alloc: Global,
+    room: u32,
+    level: u32,
+    tokens: &'a [Token],
+) -> Result<(Tree, &'a [Token]), ReadFault>
+    ensures read { IfOk result (λ x.
+        level_at level tokens.now ≡ Some (raw_expression_of x.0.expr, x.1.now)) }
+    ensures within { IfOk result (λ x. x.0.depth ≤ room) }
+    ensures shorter { IfOk result (λ x. length x.1.now < length tokens.now) }
+    ensures refused { IfErr result (Refuses (IsDeeper room (level_at level tokens.now))) }
+{
+    let (mut left, mut others) = read_operand(alloc, room, tokens)?;
+    while let Some((at, op, line, behind)) = next_operator(level, others) {
+        let (right, after) = read_level(alloc, room.saturating_sub(1), at + 1, behind)?;
+        left = joined(alloc, room, op, line, left, right)?;
+        others = after;
+    }
+    Ok((left, others))
+}
+
+/// The longest expression at the front of the tokens, and the tokens behind it. Its depth is at most `room`.
+///
+/// `Grammar`: no expression stands there, or the longest one is deeper. It is never `Deep`.
+#[cycle(expression)]
+pub fn read_expression<'a>(
+    alloc: Global,
+    room: u32,
+    tokens: &'a [Token],
+) -> Result<(Tree, &'a [Token]), ReadFault>
+    ensures read { IfOk result (λ x.
+        expression_at tokens.now ≡ Some (raw_expression_of x.0.expr, x.1.now)) }
+    ensures within { IfOk result (λ x. x.0.depth ≤ room) }
+    ensures shorter { IfOk result (λ x. length x.1.now < length tokens.now) }
+    ensures refused { IfErr result (Refuses (IsDeeper room (expression_at tokens.now))) }
+{
+    let (cond, others) = read_level(alloc, room, LOOSEST, tokens)?;
+    let [
+        Token {
+            kind: Kind::Question,
+            ..
+        },
+        others @ ..,
+    ] = others
+    else {
+        return Ok((cond, others));
+    };
+    let room_inside = room.saturating_sub(1);
+    let (first, after) = read_expression(alloc, room_inside, others)?;
+    let [
+        Token {
+            kind: Kind::Colon,
+            ..
+        },
+        after @ ..,
+    ] = after
+    else {
+        return Err(ReadFault::Grammar);
+    };
+    let (second, after) = read_expression(alloc, room_inside, after)?;
+    Ok((chosen(alloc, room, cond, first, second)?, after))
+}
