@@ -1,4 +1,5 @@
 pub mod Faults
+pub mod Gives
 pub mod Expressions
 pub mod ReadExpressions
 pub mod Declarations

@@ -5,9 +5,12 @@
 //! tokens spell which expression (ISO C11, 6.5).
 #![tactic(auto)]
 
+mod declaration;
 mod expression;
 mod fault;
+mod laws;
 mod operators;
 mod sign;
 
 pub use fault::ReadFault;
+pub use laws::one_tree;
