@@ -199,11 +199,11 @@ initialiser-split room value us (spelled.SpellsOptional.something x vs spells) =
     (spelled.SpellsOptional.something x vs spells.0, spells.1)
 
 -- The tokens spell the declarator, and its initialiser is shallow.
-abbrev SpellsShallowDeclarator : ℕ → RawDeclared → List Token → Type 0
+abbrev pub SpellsShallowDeclarator : ℕ → RawDeclared → List Token → Type 0
 SpellsShallowDeclarator room declared us =
     spelled.SpellsDeclarator declared us × (optional_depth declared.initialiser ≤ room)
 
-declarator_at-sound : (room : ℕ) → IsSound (SpellsShallowDeclarator room) (declarator_at room)
+pub declarator_at-sound : (room : ℕ) → IsSound (SpellsShallowDeclarator room) (declarator_at room)
 unfolding declarator_at
 declarator_at-sound room tokens read found =
     let x = stepped (name_at tokens) _ read found in
@@ -253,7 +253,7 @@ declaration_at-sound (suc room) tokens read found =
 
 -- ---- parameters
 
-parameter_at-sound : IsSound spelled.SpellsParameter parameter_at
+pub parameter_at-sound : IsSound spelled.SpellsParameter parameter_at
 unfolding parameter_at
 parameter_at-sound tokens read found =
     let others = stepped (behind_type tokens) _ read found in

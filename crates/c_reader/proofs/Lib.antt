@@ -6,3 +6,4 @@ pub mod Stating
 pub mod Blocks
 pub mod Levels
 pub mod Statements
+pub mod Loops

@@ -11,6 +11,8 @@ mod fault;
 mod laws;
 mod operators;
 mod sign;
+mod simple;
+mod statement;
 
 pub use fault::ReadFault;
 pub use laws::one_tree;
