@@ -1,11 +1,11 @@
 -- How far readings go, and that they do not depend on their first argument.
-use Rattle.std.proofs.Common.{◌≡◌, Bool, ℕ, zero, suc, pos, ◌+◌, ◌<◌, ◌≤◌, List, [], ◌∷◌, length, Option, Some, None, refl, ap, sym, subst, ◌∙◌, arith}
-use Rattle.c_ast.specs.RawTree.{RawExpression, Num, Named, Un, Bin, Cond}
+use Rattle.std.proofs.Common.{◌≡◌, Bool, ℕ, zero, suc, ◌+◌, ◌<◌, ◌≤◌, List, [], ◌∷◌, length, Some, ap, arith}
+use Rattle.c_ast.specs.RawTree.{RawExpression, Bin}
 use Rattle.c_ast.specs.declared.expr.BinOp.{BinOp}
 use Rattle.c_tokens.specs.declared.kind.Kind.{Kind}
 use Rattle.c_tokens.specs.declared.token.Token.{Token}
-use Rattle.c_reader.specs.ReadExpressions.{◌>>=◌, Reading, behind, is_question, is_closing, is_colon, next_operator, operand_by, joined_by, chosen_by, level_by, whole_by, operand_within, further_within, choice_within}
-use Rattle.c_reader.proofs.Parts.{step_of, step-same, Passes, IsNext, IsNext-from_next, Passes-from_behind, OperandIs, OperandIs-from_operand, named, constant, bracketed, signed, JoinedIs, JoinedIs-from_joined, ChosenIs, ChosenIs-from_chosen, ends, goes_on, LevelIs, LevelIs-from_level, WholeIs, WholeIs-from_whole}
+use Rattle.c_reader.specs.ReadExpressions.{Reading, is_question, is_closing, is_colon, level_by, whole_by, operand_within, further_within, choice_within}
+use Rattle.c_reader.proofs.Parts.{Passes, IsNext, OperandIs, OperandIs-from_operand, named, constant, bracketed, signed, JoinedIs, JoinedIs-from_joined, ChosenIs, ChosenIs-from_chosen, ends, goes_on, LevelIs-from_level, WholeIs-from_whole}
 
 -- what the program of a bound reads at a level, and as a whole
 abbrev pub level_within : ℕ → ℕ → List Token → Reading
@@ -57,15 +57,24 @@ further-short : (n : ℕ) → IsShort n → (level : ℕ) (left : RawExpression)
     → length last ≤ length tokens
 further-short n short level left tokens e last (ends same all stops) = omega (arith, ap length all)
 further-short n short level left tokens e last (goes_on at op line others f after next right further) =
-    omega (arith, IsNext-short level tokens at op line others next, level-short n short (suc at) others f after right,
-    short.further level (Bin op line left f) after e last further)
+    omega (
+      arith,
+      IsNext-short level tokens at op line others next,
+      level-short n short (suc at) others f after right,
+      short.further level (Bin op line left f) after e last further,
+    )
 
 choice-short : (n : ℕ) → IsShort n → (cond : RawExpression) (tokens : List Token) (e : RawExpression) (last : List Token)
     → ChosenIs cond tokens (whole_within n) e last → length last ≤ length tokens
 choice-short n short cond tokens e last (ends same all none) = omega (arith, ap length all)
 choice-short n short cond tokens e last (goes_on others after further f g question first colon second same) =
-    omega (arith, Passes-short is_question tokens others question, whole-short n short others f after first,
-    Passes-short is_colon after further colon, whole-short n short further g last second)
+    omega (
+      arith,
+      Passes-short is_question tokens others question,
+      whole-short n short others f after first,
+      Passes-short is_colon after further colon,
+      whole-short n short further g last second,
+    )
 
 pub IsShort-all : (n : ℕ) → IsShort n
 unfolding operand_within

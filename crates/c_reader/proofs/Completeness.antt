@@ -1,5 +1,5 @@
 -- What is spelled is read.
-use Rattle.std.proofs.Common.{◌≡◌, Bool, true, false, ℕ, zero, suc, pos, ◌+◌, ◌<◌, ◌≤◌, ◌^◌, nat_lt, nat_le, if◌then◌else◌, List, [], ◌∷◌, ◌++◌, length, Option, Some, None, refl, ap, sym, subst, ◌∙◌, append_assoc, arith}
+use Rattle.std.proofs.Common.{◌≡◌, true, false, ℕ, suc, pos, ◌<◌, ◌≤◌, ◌^◌, nat_le, if◌then◌else◌, List, [], ◌∷◌, ◌++◌, Option, Some, None, refl, ap, sym, subst, ◌∙◌, append_assoc, arith}
 use Rattle.std.proofs.lemmas.Bool.Decides.{nat_tests}
 use Rattle.std.proofs.lemmas.Option.{same_Some}
 use Rattle.c_ast.specs.RawTree.{RawExpression, Num, Named, Un, Bin, Cond}
@@ -9,18 +9,10 @@ use Rattle.c_tokens.specs.declared.kind.Kind.{Kind}
 use Rattle.c_tokens.specs.declared.kind.Kind.TheVariants as k
 use Rattle.c_tokens.specs.declared.token.Token.{Token}
 use Rattle.c_reader.specs.Expressions.{unary_of, operator_of, SpellsAt, named, constant, bracketed, signed, joined, chosen, alone, EndsExpression, SpellsExpression}
-use Rattle.c_reader.specs.ReadExpressions.{◌>>=◌, Reading, behind, is_question, is_colon, is_closing, next_operator, operand_by, joined_by, chosen_by, level_by, operand_at, further_at, level_at, choice_at, expression_at}
+use Rattle.c_reader.specs.ReadExpressions.{◌>>=◌, Reading, behind, is_question, is_colon, is_closing, next_operator, operand_at, further_at, level_at, choice_at, expression_at}
 use Rattle.c_reader.proofs.Parts.{Stops, under_sign}
 use Rattle.c_reader.proofs.Soundness.{operator-level}
-use Rattle.c_reader.proofs.Equations.{operand_at-cons, level_at-is, expression_at-is, further_at-is, choice_at-is}
-
--- A sign is none of the other first tokens.
-operand_by-sign : (kind : Kind) (line : ℕ) (others : List Token) (inside operand : Reading) (op : UnOp)
-    → unary_of kind ≡ Some op → operand_by kind line others inside operand ≡ under_sign operand op
-operand_by-sign k.Plus line others inside operand op is = ap (under_sign operand) (same_Some _ op is)
-operand_by-sign k.Minus line others inside operand op is = ap (under_sign operand) (same_Some _ op is)
-operand_by-sign k.Bang line others inside operand op is = ap (under_sign operand) (same_Some _ op is)
-operand_by-sign kind line others inside operand op is = absurd cc
+use Rattle.c_reader.proofs.Readings.{operand_at-name, operand_at-constant, operand_at-bracket, closed, operand_at-sign, level_at-operand, operation_from, further_at-next, further_at-none, expression_at-level, choice_to, choice_from, choice_at-asked, choice_at-none}
 
 -- Where no operator of the level stands first, there is no next one.
 next_operator-stops : (level : ℕ) (tokens : List Token) → Stops level tokens → next_operator level tokens ≡ None
@@ -42,19 +34,7 @@ next_operator-here level at op sign others is low =
 -- Nothing goes on from an operand there.
 further_at-stops : (level : ℕ) (left : RawExpression) (tokens : List Token) → Stops level tokens
     → further_at level left tokens ≡ Some (left, tokens)
-further_at-stops level left tokens stops =
-    further_at-is level left tokens
-    ∙ ap (λ (next : Option (ℕ × BinOp × ℕ × List Token)). joined_by left tokens next level_at (further_at level))
-    (next_operator-stops level tokens stops)
-
--- an operator and its right operand
-further_at-operator : (level at : ℕ) (op : BinOp) (sign : Token) (left : RawExpression) (others : List Token)
-    → operator_of sign.kind ≡ Some (at, op) → level ≤ at
-    → further_at level left (sign ∷ others) ≡ level_by (level_at (suc at)) (λ right. further_at level (Bin op sign.line left right)) others
-further_at-operator level at op sign left others is low =
-    further_at-is level left (sign ∷ others)
-    ∙ ap (λ (next : Option (ℕ × BinOp × ℕ × List Token)). joined_by left (sign ∷ others) next level_at (further_at level))
-    (next_operator-here level at op sign others is low)
+further_at-stops level left tokens stops = further_at-none level left tokens (next_operator-stops level tokens stops)
 
 Stops-from_ends : (tokens : List Token) → EndsExpression tokens → Stops 1 tokens
 Stops-from_ends [] ends = tt
@@ -70,9 +50,7 @@ no_question (sign ∷ others) ends = by_kind sign.kind ends.1
 
 -- Nothing goes on from a condition there.
 choice_at-ends : (cond : RawExpression) (tokens : List Token) → EndsExpression tokens → choice_at cond tokens ≡ Some (cond, tokens)
-choice_at-ends cond tokens ends =
-    choice_at-is cond tokens
-    ∙ ap (λ (others : Option (List Token)). chosen_by cond tokens others expression_at) (no_question tokens ends)
+choice_at-ends cond tokens ends = choice_at-none cond tokens (no_question tokens ends)
 
 -- How tokens that spell an expression at a level are read: as an operand, as what goes on at each looser level, and as an
 -- expression.
@@ -86,18 +64,6 @@ Stops-up : (level : ℕ) (tokens : List Token) → Stops level tokens → Stops 
 Stops-up level [] stops = tt
 Stops-up level (sign ∷ others) stops = λ at op is. omega (arith, stops at op is)
 
--- a level whose operand is known
-level_at-operand : (level : ℕ) (tokens others : List Token) (e : RawExpression) → operand_at tokens ≡ Some (e, others)
-    → level_at level tokens ≡ further_at level e others
-level_at-operand level tokens others e is =
-    level_at-is level tokens ∙ ap (λ (reading : Reading). reading >>= λ x. further_at level x.0 x.1) is
-
--- an expression whose or-expression is known
-expression_at-level : (tokens others : List Token) (e : RawExpression) → level_at 1 tokens ≡ Some (e, others)
-    → expression_at tokens ≡ choice_at e others
-expression_at-level tokens others e is =
-    expression_at-is tokens ∙ ap (λ (reading : Reading). reading >>= λ x. choice_at x.0 x.1) is
-
 -- What is read as an operand is read so at each level.
 IsRead-operand : (level : ℕ) (e : RawExpression) (us : List Token) → 7 ≤ level
     → ((others : List Token) → operand_at (us ++ others) ≡ Some (e, others)) → IsRead level e us
@@ -108,39 +74,30 @@ IsRead-operand level e us least read = record {
 }
 
 read-named : (name : List ℕ) (token : Token) → token.kind ≡ k.Word name → IsRead 8 (Named name token.line) (token ∷ [])
-read-named name token is = IsRead-operand 8 _ (token ∷ []) (omega arith) λ others.
-    operand_at-cons token others
-    ∙ ap (λ (kind : Kind). operand_by kind token.line others (expression_at others) (operand_at others)) is
+read-named name token is =
+    IsRead-operand 8 (Named name token.line) (token ∷ []) (omega arith) λ others. operand_at-name token others name is
 
 read-constant : (value : ℕ) (token : Token) → token.kind ≡ k.Constant value → value < 2 ^ 63
     → IsRead 8 (Num (pos value)) (token ∷ [])
-read-constant value token is below = IsRead-operand 8 _ (token ∷ []) (omega arith) λ others.
-    let small : nat_lt value (2 ^ 63) ≡ true = grind (arith, nat_tests, below) in
-    let read : Reading = Some (Num (pos value), others) in
-    operand_at-cons token others
-    ∙ ap (λ (kind : Kind). operand_by kind token.line others (expression_at others) (operand_at others)) is
-    ∙ ap (λ (test : Bool). if test then read else None) small
+read-constant value token is below =
+    IsRead-operand 8 (Num (pos value)) (token ∷ []) (omega arith) λ others. operand_at-constant token others value is below
 
 read-bracketed : (opening closing : Token) (e : RawExpression) (us : List Token) → opening.kind ≡ k.OpenRound
     → closing.kind ≡ k.CloseRound → IsRead 0 e us → IsRead 8 e (opening ∷ (us ++ closing ∷ []))
 read-bracketed opening closing e us opens closes read = IsRead-operand 8 e (opening ∷ (us ++ closing ∷ [])) (omega arith) λ others.
     let inside : expression_at ((us ++ closing ∷ []) ++ others) ≡ Some (e, closing ∷ others) =
-        ap expression_at (append_assoc us (closing ∷ []) others)
-        ∙ read.whole (closing ∷ others) refl (rw closes refl, λ question. absurd cc) in
-    let behind_it : behind is_closing (closing ∷ others) ≡ Some others =
-        ap (λ (kind : Kind). if is_closing kind then Some others else None) closes in
-    operand_at-cons opening ((us ++ closing ∷ []) ++ others)
-    ∙ ap (λ (kind : Kind). operand_by kind opening.line ((us ++ closing ∷ []) ++ others)
-    (expression_at ((us ++ closing ∷ []) ++ others)) (operand_at ((us ++ closing ∷ []) ++ others))) opens
-    ∙ ap (λ (reading : Reading). reading >>= λ x. behind is_closing x.1 >>= λ after. Some (x.0, after)) inside
-    ∙ ap (λ (after : Option (List Token)). after >>= λ rest. Some (e, rest)) behind_it
+    ap expression_at (append_assoc us (closing ∷ []) others)
+    ∙ read.whole (closing ∷ others) refl (rw closes refl, λ question. absurd cc) in
+    let last : behind is_closing (closing ∷ others) ≡ Some others =
+    ap (λ (kind : Kind). if is_closing kind then Some others else None) closes in
+    operand_at-bracket opening ((us ++ closing ∷ []) ++ others) opens ∙ ap closed inside
+    ∙ ap (λ (after : Option (List Token)). after >>= λ others. Some (e, others)) last
 
 read-signed : (op : UnOp) (sign : Token) (e : RawExpression) (us : List Token) → unary_of sign.kind ≡ Some op
     → IsRead 7 e us → IsRead 7 (Un op e) (sign ∷ us)
 read-signed op sign e us is read = IsRead-operand 7 (Un op e) (sign ∷ us) (omega arith) λ others.
-    operand_at-cons sign (us ++ others)
-    ∙ operand_by-sign sign.kind sign.line (us ++ others) (expression_at (us ++ others)) (operand_at (us ++ others)) op is
-    ∙ ap (λ (reading : Reading). under_sign reading op) (read.operand others (omega arith))
+    operand_at-sign sign (us ++ others) op is
+    ∙ ap (λ (operand : Reading). under_sign operand op) (read.operand others (omega arith))
 
 read-joined : (level : ℕ) (op : BinOp) (sign : Token) (e f : RawExpression) (us vs : List Token)
     → operator_of sign.kind ≡ Some (level, op) → IsRead level e us → IsRead (suc level) f vs
@@ -151,13 +108,16 @@ read-joined level op sign e f us vs is first second =
       operand = λ others least. absurd (omega (arith, least, range.1));
       further = λ at others least low stops.
           let right : level_at (suc level) (vs ++ others) ≡ Some (f, others) =
-              second.further (suc level) others (omega arith) (omega arith) (Stops-up (suc level) others stops)
-              ∙ further_at-stops (suc level) f others stops in
+          second.further (suc level) others (omega arith) (omega arith) (Stops-up (suc level) others stops)
+          ∙ further_at-stops (suc level) f others stops in
           ap (level_at at) (append_assoc us (sign ∷ vs) others)
-          ∙ first.further at (sign ∷ (vs ++ others)) least low (λ here other operator. omega (arith,
-          ap (λ (x : ℕ × BinOp). x.0) (same_Some (level, op) (here, other) (sym is ∙ operator))))
-          ∙ further_at-operator at level op sign e (vs ++ others) is low
-          ∙ ap (λ (reading : Reading). reading >>= λ x. further_at at (Bin op sign.line e x.0) x.1) right;
+          ∙ first.further at (sign ∷ (vs ++ others)) least low (λ here other operator. omega (
+            arith,
+            ap (λ (x : ℕ × BinOp). x.0) (same_Some (level, op) (here, other) (sym is ∙ operator)),
+          ))
+          ∙ further_at-next at e (sign ∷ (vs ++ others)) level op sign.line (vs ++ others)
+          (next_operator-here at level op sign (vs ++ others) is low)
+          ∙ ap (operation_from at e level op sign.line) right;
       whole = λ others is_none ends. absurd (omega (arith, range.0, is_none));
     }
 
@@ -168,13 +128,11 @@ choice_at-chosen : (question colon : Token) (cond e f : RawExpression) (vs ws ot
     → expression_at (ws ++ others) ≡ Some (f, others)
     → choice_at cond (question ∷ (vs ++ colon ∷ (ws ++ others))) ≡ Some (Cond cond e f, others)
 choice_at-chosen question colon cond e f vs ws others asks parts first second =
-    let after : List Token = vs ++ colon ∷ (ws ++ others) in
-    choice_at-is cond (question ∷ (vs ++ colon ∷ (ws ++ others)))
-    ∙ ap (λ (kind : Kind). chosen_by cond (question ∷ (vs ++ colon ∷ (ws ++ others)))
-    (if is_question kind then Some (vs ++ colon ∷ (ws ++ others)) else None) expression_at) asks
-    ∙ ap (λ (reading : Reading). reading >>= λ x. behind is_colon x.1 >>= λ rest. expression_at rest >>= λ y. Some (Cond cond x.0 y.0, y.1)) first
-    ∙ ap (λ (kind : Kind). (if is_colon kind then Some (ws ++ others) else None) >>= λ rest. expression_at rest >>= λ y. Some (Cond cond e y.0, y.1)) parts
-    ∙ ap (λ (reading : Reading). reading >>= λ y. Some (Cond cond e y.0, y.1)) second
+    choice_at-asked cond (question ∷ (vs ++ colon ∷ (ws ++ others))) (vs ++ colon ∷ (ws ++ others))
+    (ap (λ (kind : Kind). if is_question kind then Some (vs ++ colon ∷ (ws ++ others)) else None) asks)
+    ∙ ap (choice_from cond) first
+    ∙ ap (λ (kind : Kind). (if is_colon kind then Some (ws ++ others) else None) >>= λ after. choice_to cond e (expression_at after)) parts
+    ∙ ap (choice_to cond e) second
 
 read-chosen : (question colon : Token) (cond e f : RawExpression) (us vs ws : List Token) → question.kind ≡ k.Question
     → colon.kind ≡ k.Colon → IsRead 1 cond us → IsRead 0 e vs → IsRead 0 f ws
@@ -184,10 +142,10 @@ read-chosen question colon cond e f us vs ws asks parts tested first second = re
   further = λ at others least low stops. absurd (omega (arith, least));
   whole = λ others _ ends.
       let all : (us ++ question ∷ (vs ++ colon ∷ ws)) ++ others ≡ us ++ question ∷ (vs ++ colon ∷ (ws ++ others)) =
-          append_assoc us (question ∷ (vs ++ colon ∷ ws)) others
-          ∙ ap (λ (l : List Token). us ++ question ∷ l) (append_assoc vs (colon ∷ ws) others) in
+      append_assoc us (question ∷ (vs ++ colon ∷ ws)) others
+      ∙ ap (λ (l : List Token). us ++ question ∷ l) (append_assoc vs (colon ∷ ws) others) in
       let stops : (at : ℕ) (op : BinOp) → operator_of question.kind ≡ Some (at, op) → at < 1 =
-          λ at op is. absurd (no_operator question.kind at op asks is) in
+      λ at op is. absurd (no_operator question.kind at op asks is) in
       ap expression_at all
       ∙ expression_at-level (us ++ question ∷ (vs ++ colon ∷ (ws ++ others))) (question ∷ (vs ++ colon ∷ (ws ++ others))) cond
       (tested.further 1 (question ∷ (vs ++ colon ∷ (ws ++ others))) (omega arith) (omega arith)

@@ -1,5 +1,5 @@
 -- An expression is deeper than what was read before it.
-use Rattle.std.proofs.Common.{◌≡◌, ℕ, zero, suc, ◌+◌, ◌<◌, ◌≤◌, max, List, [], ◌∷◌, length, Option, Some, None, refl, ap, sym, subst, ◌∙◌, arith}
+use Rattle.std.proofs.Common.{◌≡◌, ℕ, zero, suc, ◌≤◌, List, length, Some, ap, sym, ◌∙◌, arith}
 use Rattle.c_ast.specs.RawTree.{RawExpression, Num, Named, Un, Bin, Cond}
 use Rattle.c_tokens.specs.declared.token.Token.{Token}
 use Rattle.c_reader.specs.Expressions.{expression_depth}

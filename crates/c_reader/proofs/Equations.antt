@@ -1,12 +1,11 @@
 -- The equations of readings, without their first argument: two that are great enough read the same.
-use Rattle.std.proofs.Common.{◌≡◌, Bool, ℕ, zero, suc, pos, ◌+◌, ◌<◌, ◌≤◌, List, [], ◌∷◌, length, Option, Some, None, refl, ap, sym, subst, ◌∙◌, arith}
-use Rattle.c_ast.specs.RawTree.{RawExpression, Num, Named, Un, Bin, Cond}
+use Rattle.std.proofs.Common.{◌≡◌, ℕ, zero, suc, ◌<◌, ◌≤◌, List, [], ◌∷◌, length, Option, Some, None, refl, ap, ◌∙◌, arith}
+use Rattle.c_ast.specs.RawTree.{RawExpression, Bin, Cond}
 use Rattle.c_ast.specs.declared.expr.BinOp.{BinOp}
-use Rattle.c_tokens.specs.declared.kind.Kind.{Kind}
 use Rattle.c_tokens.specs.declared.token.Token.{Token}
-use Rattle.c_reader.specs.ReadExpressions.{◌>>=◌, Reading, behind, is_question, is_colon, next_operator, operand_by, joined_by, chosen_by, level_by, whole_by, operand_within, further_within, choice_within, operand_at, further_at, level_at, choice_at, expression_at}
+use Rattle.c_reader.specs.ReadExpressions.{◌>>=◌, Reading, behind, is_question, is_colon, next_operator, operand_by, joined_by, chosen_by, level_by, operand_within, further_within, choice_within, operand_at, further_at, level_at, choice_at, expression_at}
 use Rattle.c_reader.proofs.Parts.{step-same, Passes-from_behind, IsNext-from_next}
-use Rattle.c_reader.proofs.Bounds.{level_within, whole_within, IsShort, IsShort-all, level-short, whole-short, Passes-short, IsNext-short}
+use Rattle.c_reader.proofs.Bounds.{level_within, whole_within, IsShort-all, level-short, whole-short, Passes-short, IsNext-short}
 
 -- Two bounds that are great enough for the tokens read the same.
 record AreSame (n m : ℕ) : Type 0 where
@@ -71,11 +70,12 @@ further-same : (n m : ℕ) → AreSame n m → (level : ℕ) (left : RawExpressi
 further-same n m same level left tokens most most' =
     joined-same left tokens (next_operator level tokens) (level_within n) (level_within m) (further_within n level)
     (further_within m level) (λ at op line others is.
-    let short = IsNext-short level tokens at op line others (IsNext-from_next level tokens at op line others is) in
-    (level-same n m same (suc at) others (omega (arith, short)) (omega (arith, short)),
-    λ x found. same.further level (Bin op line left x.0) x.1
-    (omega (arith, short, level-short n (IsShort-all n) (suc at) others x.0 x.1 found))
-    (omega (arith, short, level-short n (IsShort-all n) (suc at) others x.0 x.1 found))))
+    let short = IsNext-short level tokens at op line others (IsNext-from_next level tokens at op line others is) in (
+      level-same n m same (suc at) others (omega (arith, short)) (omega (arith, short)),
+      λ x found. same.further level (Bin op line left x.0) x.1
+          (omega (arith, short, level-short n (IsShort-all n) (suc at) others x.0 x.1 found))
+          (omega (arith, short, level-short n (IsShort-all n) (suc at) others x.0 x.1 found)),
+    ))
 
 choice-same : (n m : ℕ) → AreSame n m → (cond : RawExpression) (tokens : List Token) → length tokens < suc n
     → length tokens < suc m
@@ -83,12 +83,13 @@ choice-same : (n m : ℕ) → AreSame n m → (cond : RawExpression) (tokens : L
     ≡ chosen_by cond tokens (behind is_question tokens) (whole_within m)
 choice-same n m same cond tokens most most' =
     chosen-same cond tokens (behind is_question tokens) (whole_within n) (whole_within m) (λ others is.
-    let short = Passes-short is_question tokens others (Passes-from_behind is_question tokens others is) in
-    (whole-same n m same others (omega (arith, short)) (omega (arith, short)),
-    λ x after found colon.
-    let shorter = Passes-short is_colon x.1 after (Passes-from_behind is_colon x.1 after colon) in
-    whole-same n m same after (omega (arith, short, shorter, whole-short n (IsShort-all n) others x.0 x.1 found))
-    (omega (arith, short, shorter, whole-short n (IsShort-all n) others x.0 x.1 found))))
+    let short = Passes-short is_question tokens others (Passes-from_behind is_question tokens others is) in (
+      whole-same n m same others (omega (arith, short)) (omega (arith, short)),
+      λ x after found colon.
+          let shorter = Passes-short is_colon x.1 after (Passes-from_behind is_colon x.1 after colon) in
+          whole-same n m same after (omega (arith, short, shorter, whole-short n (IsShort-all n) others x.0 x.1 found))
+          (omega (arith, short, shorter, whole-short n (IsShort-all n) others x.0 x.1 found)),
+    ))
 
 operand-same : (n m : ℕ) → AreSame n m → (token : Token) (others : List Token) → length others ≤ n → length others ≤ m
     → operand_by token.kind token.line others (whole_within n others) (operand_within n others)
@@ -107,12 +108,12 @@ AreSame-all zero zero = record {
   choice = λ cond tokens most most'. refl;
 }
 AreSame-all zero (suc m) = record {
-  operand = elim [ | [] ↦ λ most most'. refl | token ∷ others ↦ λ most most'. absurd (omega (arith, most)) ];
+  operand = elim [ [] ↦ λ most most'. refl | token ∷ others ↦ λ most most'. absurd (omega (arith, most)) ];
   further = λ level left tokens most most'. absurd (omega (arith, most));
   choice = λ cond tokens most most'. absurd (omega (arith, most));
 }
 AreSame-all (suc n) zero = record {
-  operand = elim [ | [] ↦ λ most most'. refl | token ∷ others ↦ λ most most'. absurd (omega (arith, most')) ];
+  operand = elim [ [] ↦ λ most most'. refl | token ∷ others ↦ λ most most'. absurd (omega (arith, most')) ];
   further = λ level left tokens most most'. absurd (omega (arith, most'));
   choice = λ cond tokens most most'. absurd (omega (arith, most'));
 }
@@ -143,9 +144,11 @@ whole_within-at n tokens most =
     (λ x found. (AreSame-all n (suc (length x.1))).choice x.0 x.1
     (omega (arith, level-short n (IsShort-all n) 1 tokens x.0 x.1 found)) (omega arith))
 
-pub operand_at-nil : operand_at [] ≡ None
+-- No operand stands where no token does.
+pub operand_at-empty : (tokens : List Token) → length tokens ≡ 0 → operand_at tokens ≡ None
 unfolding operand_at operand_within
-operand_at-nil = refl
+operand_at-empty [] is = refl
+operand_at-empty (token ∷ others) is = absurd (omega (arith, is))
 
 -- an operand by its first token
 pub operand_at-cons : (token : Token) (others : List Token)
@@ -172,10 +175,11 @@ unfolding further_at operand_within
 further_at-is level left tokens =
     joined-same left tokens (next_operator level tokens) (level_within (length tokens)) level_at
     (further_within (length tokens) level) (further_at level) (λ at op line others is.
-    let short = IsNext-short level tokens at op line others (IsNext-from_next level tokens at op line others is) in
-    (level_within-at (length tokens) (suc at) others (omega (arith, short)),
-    λ x found. (AreSame-all (length tokens) (suc (length x.1))).further level (Bin op line left x.0) x.1
-    (omega (arith, short, level-short (length tokens) (IsShort-all (length tokens)) (suc at) others x.0 x.1 found)) (omega arith)))
+    let short = IsNext-short level tokens at op line others (IsNext-from_next level tokens at op line others is) in (
+      level_within-at (length tokens) (suc at) others (omega (arith, short)),
+      λ x found. (AreSame-all (length tokens) (suc (length x.1))).further level (Bin op line left x.0) x.1
+          (omega (arith, short, level-short (length tokens) (IsShort-all (length tokens)) (suc at) others x.0 x.1 found)) (omega arith),
+    ))
 
 -- what goes on from a condition
 pub choice_at-is : (cond : RawExpression) (tokens : List Token)
@@ -183,9 +187,10 @@ pub choice_at-is : (cond : RawExpression) (tokens : List Token)
 unfolding choice_at operand_within
 choice_at-is cond tokens =
     chosen-same cond tokens (behind is_question tokens) (whole_within (length tokens)) expression_at (λ others is.
-    let short = Passes-short is_question tokens others (Passes-from_behind is_question tokens others is) in
-    (whole_within-at (length tokens) others (omega (arith, short)),
-    λ x after found colon.
-    let shorter = Passes-short is_colon x.1 after (Passes-from_behind is_colon x.1 after colon) in
-    whole_within-at (length tokens) after
-    (omega (arith, short, shorter, whole-short (length tokens) (IsShort-all (length tokens)) others x.0 x.1 found))))
+    let short = Passes-short is_question tokens others (Passes-from_behind is_question tokens others is) in (
+      whole_within-at (length tokens) others (omega (arith, short)),
+      λ x after found colon.
+          let shorter = Passes-short is_colon x.1 after (Passes-from_behind is_colon x.1 after colon) in
+          whole_within-at (length tokens) after
+          (omega (arith, short, shorter, whole-short (length tokens) (IsShort-all (length tokens)) others x.0 x.1 found)),
+    ))

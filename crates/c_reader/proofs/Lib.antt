@@ -1,7 +1,9 @@
 pub mod Parts
 pub mod Bounds
 pub mod Equations
+pub mod Readings
 pub mod Soundness
 pub mod Completeness
 pub mod Depths
+pub mod Refusals
 pub mod Samples

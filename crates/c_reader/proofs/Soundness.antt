@@ -1,17 +1,16 @@
 -- What is read is spelled.
-use Rattle.std.proofs.Common.{◌≡◌, Bool, true, false, ℕ, zero, suc, pos, ◌+◌, ◌-◌, ◌<◌, ◌≤◌, List, [], ◌∷◌, ◌++◌, length, Option, Some, None, refl, ap, sym, subst, ◌∙◌, append_assoc, arith}
-use Rattle.c_ast.specs.RawTree.{RawExpression, Num, Named, Un, Bin, Cond}
+use Rattle.std.proofs.Common.{◌≡◌, ℕ, zero, suc, ◌+◌, ◌-◌, ◌<◌, ◌≤◌, List, [], ◌∷◌, ◌++◌, length, Option, Some, None, refl, ap, sym, subst, ◌∙◌, append_assoc, arith}
+use Rattle.c_ast.specs.RawTree.{RawExpression, Bin}
 use Rattle.c_ast.specs.declared.expr.BinOp.{BinOp}
 use Rattle.c_tokens.specs.declared.kind.Kind.{Kind}
 use Rattle.c_tokens.specs.declared.kind.Kind.TheVariants as k
 use Rattle.c_tokens.specs.declared.token.Token.{Token}
 use Rattle.c_reader.specs.Expressions as spelled
 use Rattle.c_reader.specs.Expressions.{operator_of, SpellsAt, alone, joined, EndsExpression, BeginsExpression, expression_depth}
-use Rattle.c_reader.specs.ReadExpressions.{behind, is_question, is_colon, is_closing, operand_within, further_within, choice_within, operand_at, expression_at}
+use Rattle.c_reader.specs.ReadExpressions.{behind, is_question, operand_within, further_within, choice_within, operand_at, expression_at}
 use Rattle.c_reader.proofs.Equations.{whole_within-at}
-use Rattle.c_reader.proofs.Parts.{Stops, Passes, closing-is, question-is, colon-is, IsNext, OperandIs, OperandIs-from_operand, named, constant, bracketed, signed, JoinedIs, JoinedIs-from_joined, ChosenIs, ChosenIs-from_chosen, ends, goes_on, LevelIs-from_level, WholeIs-from_whole}
+use Rattle.c_reader.proofs.Parts.{Stops, closing-is, question-is, colon-is, IsNext, OperandIs, OperandIs-from_operand, named, constant, bracketed, signed, JoinedIs, JoinedIs-from_joined, ChosenIs, ChosenIs-from_chosen, ends, goes_on, LevelIs-from_level, WholeIs-from_whole}
 use Rattle.c_reader.proofs.Bounds.{level_within, whole_within}
-
 use Rattle.std.proofs.lemmas.Option.{same_Some}
 
 -- the levels of equal operators
@@ -103,7 +102,7 @@ operand-sound n sound token others e last (bracketed _ after _ is inside closing
     record {
       front = token ∷ (b.front ++ closing.token ∷ []);
       parts = ap (λ (l : List Token). token ∷ l) (b.parts ∙ ap (λ (l : List Token). b.front ++ l) closing.parts
-      ∙ sym (append_assoc b.front (closing.token ∷ []) last));
+          ∙ sym (append_assoc b.front (closing.token ∷ []) last));
       spells = alone 7 e _ (omega arith) (spelled.bracketed token closing.token e b.front is ends_it b.spells);
       stops = Stops-operand 7 last (omega arith);
     }
@@ -173,12 +172,12 @@ choice-sound n sound cond us whole tokens e last spells parts stops
     record {
       front = us ++ question.token ∷ (b.front ++ colon.token ∷ d.front);
       parts = parts ∙ ap (λ (l : List Token). us ++ l) (question.parts ∙ ap (λ (l : List Token). question.token ∷ l)
-      (b.parts ∙ ap (λ (l : List Token). b.front ++ l) (colon.parts ∙ ap (λ (l : List Token). colon.token ∷ l) d.parts)
-      ∙ sym (append_assoc b.front (colon.token ∷ d.front) last)))
-      ∙ sym (append_assoc us (question.token ∷ (b.front ++ colon.token ∷ d.front)) last);
+          (b.parts ∙ ap (λ (l : List Token). b.front ++ l) (colon.parts ∙ ap (λ (l : List Token). colon.token ∷ l) d.parts)
+          ∙ sym (append_assoc b.front (colon.token ∷ d.front) last)))
+          ∙ sym (append_assoc us (question.token ∷ (b.front ++ colon.token ∷ d.front)) last);
       spells = subst (λ (x : RawExpression). SpellsAt 0 x (us ++ question.token ∷ (b.front ++ colon.token ∷ d.front))) same
-      (spelled.chosen question.token colon.token cond f g us b.front d.front (question-is question.token.kind question.is_so)
-      (colon-is colon.token.kind colon.is_so) spells b.spells d.spells);
+          (spelled.chosen question.token colon.token cond f g us b.front d.front (question-is question.token.kind question.is_so)
+          (colon-is colon.token.kind colon.is_so) spells b.spells d.spells);
       ends = d.ends;
     }
 
