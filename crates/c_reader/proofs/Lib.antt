@@ -1,3 +1,11 @@
+pub mod Parts
+pub mod Bounds
+pub mod Equations
+pub mod Readings
+pub mod Soundness
+pub mod Completeness
+pub mod Depths
+pub mod Refusals
 pub mod Samples
 pub mod Reading
 pub mod Shallow

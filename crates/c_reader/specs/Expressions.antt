@@ -41,7 +41,7 @@ pub data SpellsAt : ℕ → RawExpression → List Token → Type 0 where
       → SpellsAt 8 (Num (pos value)) (token ∷ [])
   -- Brackets leave nothing in the tree.
   bracketed : (opening closing : Token) (e : RawExpression) (us : List Token) → opening.kind ≡ k.OpenRound
-      → closing.kind ≡ k.CloseRound → SpellsAt 0 e us → SpellsAt 8 e (opening ∷ us ++ closing ∷ [])
+      → closing.kind ≡ k.CloseRound → SpellsAt 0 e us → SpellsAt 8 e (opening ∷ (us ++ closing ∷ []))
   -- a sign before its operand (6.5.3.3)
   signed : (op : UnOp) (sign : Token) (e : RawExpression) (us : List Token) → unary_of sign.kind ≡ Some op
       → SpellsAt 7 e us → SpellsAt 7 (Un op e) (sign ∷ us)
@@ -53,7 +53,7 @@ pub data SpellsAt : ℕ → RawExpression → List Token → Type 0 where
   -- a choice (6.5.15), whose two values are whole expressions
   chosen : (question colon : Token) (cond e f : RawExpression) (us vs ws : List Token) → question.kind ≡ k.Question
       → colon.kind ≡ k.Colon → SpellsAt 1 cond us → SpellsAt 0 e vs → SpellsAt 0 f ws
-      → SpellsAt 0 (Cond cond e f) (us ++ question ∷ vs ++ colon ∷ ws)
+      → SpellsAt 0 (Cond cond e f) (us ++ question ∷ (vs ++ colon ∷ ws))
   -- An expression of the next level may stand alone.
   alone : (level : ℕ) (e : RawExpression) (us : List Token) → level < 8 → SpellsAt (suc level) e us → SpellsAt level e us
 

@@ -1,17 +1,17 @@
 //! Expressions (ISO C11, 6.5.1 to 6.5.15), by recursive descent.
-ghost use Rattle.std.specs.Prelude.{◌≡◌, ℕ, suc, ◌+◌, ◌-◌, ◌<◌, ◌≤◌, ◌^◌, max, List, length, Some, None, IfOk, IfErr, IfSome, option_map};
-ghost use Rattle.c_ast.specs.RawTree.{Un, Bin, Cond};
+ghost use Rattle.std.specs.Prelude.{◌≡◌, ℕ, suc, pos, ◌+◌, ◌-◌, ◌<◌, ◌≤◌, ◌^◌, max, List, length, Some, None, IfOk, IfErr, IfSome, option_map};
+ghost use Rattle.c_ast.specs.RawTree.{Num, Named, Un, Bin, Cond};
 ghost use Rattle.c_ast.specs.RawView.{raw_expression_of};
 ghost use Rattle.c_reader.specs.Expressions.{expression_depth};
 ghost use Rattle.c_reader.specs.Faults.{Refuses};
-ghost use Rattle.c_reader.specs.ReadExpressions.{next_operator, operand_at, level_at, expression_at, IsDeeper};
+ghost use Rattle.c_reader.specs.ReadExpressions.{behind, is_closing, is_question, is_colon, next_operator, operand_at, level_at, expression_at, IsDeeper};
 
 use crate::ReadFault;
 use crate::operators::{LOOSEST, operator_of, unary_of};
-use c_ast::{BinOp, RawExpr, UnOp};
+use c_ast::{BinOp, Name, RawExpr, UnOp};
 use c_tokens::{Kind, Token};
 use sqlite_items::Boxed;
-use std::alloc::Global;
+use std::alloc::{AllocError, Global};
 
 /// An expression, and its depth.
 #[derive(Drop)]
@@ -37,34 +37,87 @@ fn next_operator(level: u32, tokens: &[Token]) -> Option<(u32, BinOp, u32, &[Tok
     }
 }
 
-fn leaf(expr: RawExpr) -> Tree
-    requires { expression_depth (raw_expression_of expr) ≡ 1 }
-    ensures { result.expr ≡ expr }
+// The tokens behind a `)`.
+fn behind_closing(tokens: &[Token]) -> Option<&[Token]>
+    ensures behind { option_map (λ x. x.now) result ≡ behind is_closing tokens.now }
+    ensures shorter { IfSome result (λ x. length x.now < length tokens.now) }
 {
-    Tree { expr, depth: 1 }
+    match tokens {
+        [
+            Token {
+                kind: Kind::CloseRound,
+                ..
+            },
+            others @ ..,
+        ] => Some(others),
+        _ => None,
+    }
 }
 
-// The depth of an expression whose deepest part has this one, unless there is no room for it.
-fn above(room: u32, depth: u32) -> Result<u32, ReadFault>
-    ensures above { IfOk result (λ above. above ≡ depth + 1) }
-    ensures within { IfOk result (λ above. above ≤ room) }
-    ensures refused { IfErr result (Refuses (room < depth + 1)) }
+// The tokens behind a `?`.
+fn behind_question(tokens: &[Token]) -> Option<&[Token]>
+    ensures behind { option_map (λ x. x.now) result ≡ behind is_question tokens.now }
+    ensures shorter { IfSome result (λ x. length x.now < length tokens.now) }
 {
-    if depth < room {
-        Ok(depth + 1)
-    } else {
-        Err(ReadFault::Grammar)
+    match tokens {
+        [
+            Token {
+                kind: Kind::Question,
+                ..
+            },
+            others @ ..,
+        ] => Some(others),
+        _ => None,
+    }
+}
+
+// The tokens behind a `:`.
+fn behind_colon(tokens: &[Token]) -> Option<&[Token]>
+    ensures behind { option_map (λ x. x.now) result ≡ behind is_colon tokens.now }
+    ensures shorter { IfSome result (λ x. length x.now < length tokens.now) }
+{
+    match tokens {
+        [
+            Token {
+                kind: Kind::Colon,
+                ..
+            },
+            others @ ..,
+        ] => Some(others),
+        _ => None,
+    }
+}
+
+// A name with its line.
+fn named(name: Name, line: u32) -> Tree
+    ensures made { raw_expression_of result.expr ≡ Named name line }
+    ensures depth { result.depth ≡ 1 }
+{
+    Tree {
+        expr: RawExpr::Var(name, line),
+        depth: 1,
+    }
+}
+
+fn constant(value: u64) -> Tree
+    requires { value < 2 ^ 63 }
+    ensures made { raw_expression_of result.expr ≡ Num (pos value) }
+    ensures depth { result.depth ≡ 1 }
+{
+    Tree {
+        expr: RawExpr::Num(value as i64),
+        depth: 1,
     }
 }
 
 // A sign with its operand.
-fn signed(alloc: Global, room: u32, op: UnOp, operand: Tree) -> Result<Tree, ReadFault>
+fn signed(alloc: Global, op: UnOp, operand: Tree) -> Result<Tree, AllocError>
+    requires { operand.depth + 1 < 2 ^ 32 }
     ensures made { IfOk result (λ tree.
         raw_expression_of tree.expr ≡ Un op (raw_expression_of operand.expr)) }
-    ensures within { IfOk result (λ tree. tree.depth ≤ room) }
-    ensures refused { IfErr result (Refuses (room < operand.depth + 1)) }
+    ensures depth { IfOk result (λ tree. tree.depth ≡ operand.depth + 1) }
 {
-    let depth = above(room, operand.depth)?;
+    let depth = operand.depth + 1;
     let operand = Boxed::new(alloc, operand.expr)?;
     Ok(Tree {
         expr: RawExpr::Un(op, operand),
@@ -73,20 +126,13 @@ fn signed(alloc: Global, room: u32, op: UnOp, operand: Tree) -> Result<Tree, Rea
 }
 
 // An operation with its line and its operands.
-fn joined(
-    alloc: Global,
-    room: u32,
-    op: BinOp,
-    line: u32,
-    left: Tree,
-    right: Tree,
-) -> Result<Tree, ReadFault>
+fn joined(alloc: Global, op: BinOp, line: u32, left: Tree, right: Tree) -> Result<Tree, AllocError>
+    requires { max left.depth right.depth + 1 < 2 ^ 32 }
     ensures made { IfOk result (λ tree. raw_expression_of tree.expr
         ≡ Bin op line (raw_expression_of left.expr) (raw_expression_of right.expr)) }
-    ensures within { IfOk result (λ tree. tree.depth ≤ room) }
-    ensures refused { IfErr result (Refuses (room < max left.depth right.depth + 1)) }
+    ensures depth { IfOk result (λ tree. tree.depth ≡ max left.depth right.depth + 1) }
 {
-    let depth = above(room, left.depth.max(right.depth))?;
+    let depth = left.depth.max(right.depth) + 1;
     let left = Boxed::new(alloc, left.expr)?;
     let right = Boxed::new(alloc, right.expr)?;
     Ok(Tree {
@@ -96,19 +142,14 @@ fn joined(
 }
 
 // A choice with its condition and its values.
-fn chosen(
-    alloc: Global,
-    room: u32,
-    cond: Tree,
-    first: Tree,
-    second: Tree,
-) -> Result<Tree, ReadFault>
+fn chosen(alloc: Global, cond: Tree, first: Tree, second: Tree) -> Result<Tree, AllocError>
+    requires { max cond.depth (max first.depth second.depth) + 1 < 2 ^ 32 }
     ensures made { IfOk result (λ tree. raw_expression_of tree.expr
         ≡ Cond (raw_expression_of cond.expr) (raw_expression_of first.expr) (raw_expression_of second.expr)) }
-    ensures within { IfOk result (λ tree. tree.depth ≤ room) }
-    ensures refused { IfErr result (Refuses (room < max cond.depth (max first.depth second.depth) + 1)) }
+    ensures depth { IfOk result (λ tree.
+        tree.depth ≡ max cond.depth (max first.depth second.depth) + 1) }
 {
-    let depth = above(room, cond.depth.max(first.depth.max(second.depth)))?;
+    let depth = cond.depth.max(first.depth.max(second.depth)) + 1;
     let cond = Boxed::new(alloc, cond.expr)?;
     let first = Boxed::new(alloc, first.expr)?;
     let second = Boxed::new(alloc, second.expr)?;
@@ -116,6 +157,19 @@ fn chosen(
         expr: RawExpr::Cond(cond, first, second),
         depth,
     })
+}
+
+// The room for the other parts of an expression that has a part of this depth.
+fn room_beside(depth: u32, room: u32) -> Result<u32, ReadFault>
+    ensures room { IfOk result (λ inside. inside + 1 ≡ room) }
+    ensures beside { IfOk result (λ inside. depth ≤ inside) }
+    ensures refused { IfErr result (Refuses (room ≤ depth)) }
+{
+    if depth < room {
+        Ok(room - 1)
+    } else {
+        Err(ReadFault::Grammar)
+    }
 }
 
 // primary: name, constant, or "(" expr ")"
@@ -139,20 +193,16 @@ fn read_operand<'a>(
         return Err(ReadFault::Grammar);
     };
     match &token.kind {
-        Kind::Word(name) => Ok((leaf(RawExpr::Var(name.copy()?, token.line)), others)),
-        Kind::Constant(value) if *value <= i64::MAX as u64 => {
-            Ok((leaf(RawExpr::Num(*value as i64)), others))
+        Kind::Word(name) => Ok((named(name.copy()?, token.line), others)),
+        Kind::Constant(value) => {
+            if *value > i64::MAX as u64 {
+                return Err(ReadFault::Grammar);
+            }
+            Ok((constant(*value), others))
         }
         Kind::OpenRound => {
             let (inside, after) = read_expression(alloc, room, others)?;
-            let [
-                Token {
-                    kind: Kind::CloseRound,
-                    ..
-                },
-                after @ ..,
-            ] = after
-            else {
+            let Some(after) = behind_closing(after) else {
                 return Err(ReadFault::Grammar);
             };
             Ok((inside, after))
@@ -162,7 +212,7 @@ fn read_operand<'a>(
                 return Err(ReadFault::Grammar);
             };
             let (operand, after) = read_operand(alloc, room - 1, others)?;
-            Ok((signed(alloc, room, op, operand)?, after))
+            Ok((signed(alloc, op, operand)?, after))
         }
     }
 }
@@ -185,8 +235,9 @@ fn read_level<'a>(
 {
     let (mut left, mut others) = read_operand(alloc, room, tokens)?;
     while let Some((at, op, line, behind)) = next_operator(level, others) {
-        let (right, after) = read_level(alloc, room.saturating_sub(1), at + 1, behind)?;
-        left = joined(alloc, room, op, line, left, right)?;
+        let inside = room_beside(left.depth, room)?;
+        let (right, after) = read_level(alloc, inside, at + 1, behind)?;
+        left = joined(alloc, op, line, left, right)?;
         others = after;
     }
     Ok((left, others))
@@ -208,28 +259,14 @@ pub fn read_expression<'a>(
     ensures refused { IfErr result (Refuses (IsDeeper room (expression_at tokens.now))) }
 {
     let (cond, others) = read_level(alloc, room, LOOSEST, tokens)?;
-    let [
-        Token {
-            kind: Kind::Question,
-            ..
-        },
-        others @ ..,
-    ] = others
-    else {
+    let Some(others) = behind_question(others) else {
         return Ok((cond, others));
     };
-    let room_inside = room.saturating_sub(1);
-    let (first, after) = read_expression(alloc, room_inside, others)?;
-    let [
-        Token {
-            kind: Kind::Colon,
-            ..
-        },
-        after @ ..,
-    ] = after
-    else {
+    let inside = room_beside(cond.depth, room)?;
+    let (first, after) = read_expression(alloc, inside, others)?;
+    let Some(after) = behind_colon(after) else {
         return Err(ReadFault::Grammar);
     };
-    let (second, after) = read_expression(alloc, room_inside, after)?;
-    Ok((chosen(alloc, room, cond, first, second)?, after))
+    let (second, after) = read_expression(alloc, inside, after)?;
+    Ok((chosen(alloc, cond, first, second)?, after))
 }

@@ -1,4 +1,4 @@
-use Rattle.std.proofs.Common.{◌≡◌, ◌+◌, ◌*◌, ◌≤◌, List, length, Some}
+use Rattle.std.proofs.Common.{◌≡◌, ◌+◌, ◌*◌, ◌≤◌, length}
 use Rattle.c_ast.specs.RawView.{raw_expression_of}
 use Rattle.c_reader.specs.ReadExpressions.{level_at, further_at}
 use Rattle.c_reader.proofs.expression.+expression.Given as goal
