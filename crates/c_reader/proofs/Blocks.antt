@@ -1,5 +1,5 @@
 -- What is read as a statement is spelled so, and is no deeper than its room: the statements that hold others.
-use Rattle.std.proofs.Common.{◌≡◌, ℕ, zero, suc, pos, ◌<◌, ◌≤◌, ◌+◌, max, Bool, true, false, if◌then◌else◌, List, [], ◌∷◌, ◌++◌, length, Option, Some, None, refl, sym, ap, subst, ◌∙◌, append_assoc, arith}
+use Rattle.std.proofs.Common.{◌≡◌, ℕ, zero, suc, pos, ◌<◌, ◌≤◌, ◌+◌, max, Bool, true, false, if◌then◌else◌, List, [], ◌∷◌, ◌++◌, length, length-append, Option, Some, None, refl, sym, ap, subst, ◌∙◌, append_assoc, arith}
 use Rattle.c_ast.specs.RawTree as tree
 use Rattle.c_ast.specs.RawTree.{RawExpression, RawCondition, RawDeclared, RawStatements}
 use Rattle.c_ast.specs.RawView.{raw_joined, raw_one, raw_optional, raw_branches}
@@ -20,6 +20,7 @@ use Rattle.c_reader.specs.ReadDeclarations.{Reads, shallow_at, begins_type, decl
 use Rattle.c_reader.specs.ReadStatements.{simple_at, mark_at, condition_at, start_at, if_at, while_at, do_at, head_at, for_at, ended, entry_at, entries_by, entries_within, entries_at, statement_by, statement_at}
 use Rattle.c_reader.proofs.Reading.{stepped, behind_sign-found, begins-here, begins-none, SignFirst, HasSign, Front, IsSound, given, append_parts, cons_parts}
 use Rattle.c_reader.proofs.Shallow.{shallow-sound, ShallowAt}
+use Rattle.c_reader.proofs.Firsts.{FirstIs-some, starts_statement, statement-first}
 use Rattle.c_reader.proofs.Levels.{PutsInFront, declaration-level, statement-level}
 use Rattle.c_reader.proofs.Declaring.{SpellsWithin, declaration_at-sound, unless-sound}
 use Rattle.c_reader.proofs.Stating.{SpellsShallowCondition, simple_at-sound, mark_at-sound, condition_at-sound, start_at-sound}
@@ -277,6 +278,7 @@ pub record EntryFirst (room : ℕ) (tokens : List Token) (s : Statement) (after 
   pub spells : (others : List Statement) (vs : List Token) → SpellsEntries others vs
       → SpellsEntries (s ∷ others) (front ++ vs)
   pub level : PutsInFront s
+  pub some : 0 < length front
   pub within : statements_depth (s tree.Nil) ≤ room
 
 entry-by : (room : ℕ) (inside : List Token → Reads Statement) (tokens : List Token) (test : Bool)
@@ -294,6 +296,7 @@ entry-by room inside tokens true read sound found =
           subst (SpellsEntries (x.0.0 ∷ others)) (sym (append_assoc at.front (semicolon.0.token ∷ []) vs))
           (SpellsEntries.declaration x.0.0 others semicolon.0.token at.front vs semicolon.0.has at.spells.0 entries);
       level = declaration-level x.0.0 at.front at.spells.0;
+      some = omega (arith, length-append at.front (semicolon.0.token ∷ []));
       within = at.spells.1;
     })
 entry-by room inside tokens false read sound found =
@@ -303,6 +306,7 @@ entry-by room inside tokens false read sound found =
       parts = at.parts;
       spells = λ others vs entries. SpellsEntries.statement read.0 others at.front vs at.spells entries;
       level = statement-level read.0 at.front at.spells;
+      some = FirstIs-some starts_statement at.front (statement-first read.0 at.front at.spells);
       within = at.within;
     }
 
@@ -311,6 +315,13 @@ pub entry_at-sound : (room : ℕ) (inside : List Token → Reads Statement) (tok
     → EntryFirst room tokens read.0 read.1
 unfolding entry_at
 entry_at-sound room inside tokens read sound found = entry-by room inside tokens (begins_type tokens) read sound found
+
+pub entry-shorter : (room : ℕ) (inside : List Token → Reads Statement) (tokens : List Token)
+    (read : Statement × List Token) → AreStatements room inside → entry_at room inside tokens ≡ Some read
+    → length read.1 < length tokens
+entry-shorter room inside tokens read sound found =
+    let at = entry_at-sound room inside tokens read sound found in
+    rw at.parts (omega (arith, at.some, length-append at.front read.1))
 
 -- The entries and a closing brace stand at the front, these tokens follow, and none is deeper than this.
 pub record EntriesFirst (room : ℕ) (tokens : List Token) (entries : List Statement) (after : List Token) : Type 0 where

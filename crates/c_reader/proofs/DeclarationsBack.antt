@@ -92,8 +92,8 @@ declarator-behind : (room : ℕ) (declared : RawDeclared) (us after : List Token
     → optional_depth declared.initialiser ≤ room → EndsDeclarator after
     → declarator_at room (us ++ after) ≡ Some (declared, after)
 unfolding declarator_at
-declarator-behind room _ _ after (SpellsDeclarator.declarator var value us vs name spells) low ends =
-    rw (append_assoc us vs after) (step _ (var, vs ++ after) (name-behind var us (vs ++ after) name)
+declarator-behind room _ _ after (SpellsDeclarator.declarator var value us vs spells_name spells) low ends =
+    rw (append_assoc us vs after) (step _ (var, vs ++ after) (name-behind var us (vs ++ after) spells_name)
     (step _ (value, after) (initialiser-behind room value vs after spells low ends.no_sign ends.ends) refl))
 
 -- What is spelled so, and what follows it so, is read so.
@@ -113,13 +113,13 @@ listed-within Spells Ends item _ us after zero spells complete comma ends last e
 listed-within Spells Ends item _ _ after (suc n) (SpellsListed.last x us spells) complete comma ends last enough =
     step _ (x, after) (complete x us after spells ends)
     (ap (λ behind. listed_by x after behind (listed_within item n)) (behind_sign-none sign.Comma after last))
-listed-within Spells Ends item _ _ after (suc n) (SpellsListed.more x others first us vs is spells more) complete comma
+listed-within Spells Ends item _ _ after (suc n) (SpellsListed.more x others first us vs is spells spells_others) complete comma
     ends last enough =
     rw (append_assoc us (first ∷ vs) after)
     (step _ (x, first ∷ vs ++ after) (complete x us (first ∷ vs ++ after) spells (comma first (vs ++ after) is))
     (ap (λ behind. listed_by x (first ∷ vs ++ after) behind (listed_within item n)) (behind_sign-here sign.Comma first (vs ++ after) is)
     ∙ step (λ y. Some (x ∷ y.0, y.1)) (others, after)
-    (listed-within Spells Ends item others vs after n more complete comma ends last
+    (listed-within Spells Ends item others vs after n spells_others complete comma ends last
     (omega (arith, length-append us (first ∷ vs)))) refl))
 
 pub listed-behind : {X : Type 0} (Spells : X → List Token → Type 0) (Ends : List Token → Type 0)
@@ -141,8 +141,8 @@ shallow-listed : (room : ℕ) (declarators : List RawDeclared) (us : List Token)
     → SpellsListed SpellsDeclarator declarators us → declarators_depth declarators ≤ room
     → SpellsListed (SpellsShallow room) declarators us
 shallow-listed room _ us (SpellsListed.last x vs spells) low = SpellsListed.last x vs (spells, omega (arith, low))
-shallow-listed room _ us (SpellsListed.more x others comma vs ws is spells more) low =
-    SpellsListed.more x others comma vs ws is (spells, omega (arith, low)) (shallow-listed room others ws more (omega (arith, low)))
+shallow-listed room _ us (SpellsListed.more x others comma vs ws is spells spells_others) low =
+    SpellsListed.more x others comma vs ws is (spells, omega (arith, low)) (shallow-listed room others ws spells_others (omega (arith, low)))
 
 declarators-comma : AllowsComma EndsDeclarator
 declarators-comma comma others is = record {
@@ -151,8 +151,8 @@ declarators-comma comma others is = record {
 }
 
 declarator-first : (declared : RawDeclared) (us : List Token) → SpellsDeclarator declared us → FirstIs starts_name us
-declarator-first _ _ (SpellsDeclarator.declarator var value us vs name spells) =
-    FirstIs-append starts_name us vs (name-first var us name)
+declarator-first _ _ (SpellsDeclarator.declarator var value us vs spells_name spells) =
+    FirstIs-append starts_name us vs (name-first var us spells_name)
 
 pub declaration-behind : (s : Statement) (us : List Token) (semicolon : Token) (after : List Token) (room : ℕ)
     → SpellsDeclaration s us → semicolon.kind ≡ k.Semicolon → statements_depth (s tree.Nil) ≤ room
@@ -179,13 +179,13 @@ declaration-behind _ _ semicolon after (suc room) (SpellsDeclaration.declaration
 parameter-behind : (var : Var) (us after : List Token) → SpellsParameter var us
     → parameter_at (us ++ after) ≡ Some (var, after)
 unfolding parameter_at
-parameter-behind var _ after (SpellsParameter.parameter _ us vs type name) =
+parameter-behind var _ after (SpellsParameter.parameter _ us vs type spells_name) =
     rw (append_assoc us vs after) (step name_at (vs ++ after)
-    (type-before-name us (vs ++ after) type (FirstIs-append starts_name vs after (name-first var vs name)))
-    (name-behind var vs after name))
+    (type-before-name us (vs ++ after) type (FirstIs-append starts_name vs after (name-first var vs spells_name)))
+    (name-behind var vs after spells_name))
 
 parameter-first : (var : Var) (us : List Token) → SpellsParameter var us → FirstIs starts_type us
-parameter-first var _ (SpellsParameter.parameter _ us vs type name) = FirstIs-append starts_type us vs (type-first us type)
+parameter-first var _ (SpellsParameter.parameter _ us vs type spells_name) = FirstIs-append starts_type us vs (type-first us type)
 
 pub parameters-behind : (vars : List Var) (us : List Token) (closing : Token) (after : List Token)
     → SpellsParameters vars us → closing.kind ≡ k.CloseRound → parameters_at (us ++ closing ∷ after) ≡ Some (vars, after)

@@ -50,7 +50,7 @@ skipped-not s (first ∷ others) is = rw is refl
 
 -- ---- types and names
 
-pub starts_type : Kind → Bool
+unfoldable pub starts_type : Kind → Bool
 starts_type k.Int = true
 starts_type k.Long = true
 starts_type _ = false
@@ -74,7 +74,7 @@ unfolding starts_type
 type-no_void k.Void is = absurd cc
 type-no_void _ is = refl
 
-pub starts_name : Kind → Bool
+unfoldable pub starts_name : Kind → Bool
 starts_name (k.Word name) = true
 starts_name _ = false
 
@@ -95,12 +95,43 @@ name-no_long _ is = refl
 pub listed-first : {X : Type 0} (test : Kind → Bool) (Spells : X → List Token → Type 0) (xs : List X) (us : List Token)
     → ((x : X) (vs : List Token) → Spells x vs → FirstIs test vs) → SpellsListed Spells xs us → FirstIs test us
 listed-first test Spells _ us first (SpellsListed.last x vs spells) = first x vs spells
-listed-first test Spells _ us first (SpellsListed.more x others comma vs ws is spells more) =
+listed-first test Spells _ us first (SpellsListed.more x others comma vs ws is spells spells_others) =
     FirstIs-append test vs (comma ∷ ws) (first x vs spells)
+
+pub type-no_else : (kind : Kind) → starts_type kind ≡ true → is_sign sign.Else kind ≡ false
+unfolding starts_type
+type-no_else k.Else is = absurd cc
+type-no_else _ is = refl
+
+pub type-no_brace : (kind : Kind) → starts_type kind ≡ true → is_sign sign.CloseCurly kind ≡ false
+unfolding starts_type
+type-no_brace k.CloseCurly is = absurd cc
+type-no_brace _ is = refl
+
+pub type-no_semicolon : (kind : Kind) → starts_type kind ≡ true → is_sign sign.Semicolon kind ≡ false
+unfolding starts_type
+type-no_semicolon k.Semicolon is = absurd cc
+type-no_semicolon _ is = refl
+
+pub name-no_mark : (kind : Kind) → starts_name kind ≡ true → is_sign sign.MarkWord kind ≡ false
+unfolding starts_name
+name-no_mark k.MarkWord is = absurd cc
+name-no_mark _ is = refl
+
+pub name-no_bracket : (kind : Kind) → starts_name kind ≡ true → is_sign sign.CloseRound kind ≡ false
+unfolding starts_name
+name-no_bracket k.CloseRound is = absurd cc
+name-no_bracket _ is = refl
+
+pub type-no_qualifier : (kind : Kind) → starts_type kind ≡ true → is_sign sign.Qualifier kind ≡ false
+unfolding starts_type
+type-no_qualifier k.Extern is = absurd cc
+type-no_qualifier k.Static is = absurd cc
+type-no_qualifier _ is = refl
 
 -- ---- expressions
 
-pub starts_expression : Kind → Bool
+unfoldable pub starts_expression : Kind → Bool
 starts_expression (k.Word name) = true
 starts_expression (k.Constant value) = true
 starts_expression k.OpenRound = true
@@ -155,7 +186,7 @@ ends-at kind first others is none other = (ap operator_of is ∙ none, λ asks. 
 
 -- ---- statements
 
-pub starts_statement : Kind → Bool
+unfoldable pub starts_statement : Kind → Bool
 starts_statement (k.Word name) = true
 starts_statement k.PlusPlus = true
 starts_statement k.MinusMinus = true
@@ -172,7 +203,7 @@ starts_statement k.MarkWord = true
 starts_statement _ = false
 
 -- what begins an assignment
-pub starts_simple : Kind → Bool
+unfoldable pub starts_simple : Kind → Bool
 starts_simple (k.Word name) = true
 starts_simple k.PlusPlus = true
 starts_simple k.MinusMinus = true
@@ -198,6 +229,26 @@ simple-first _ _ (SpellsSimple.step_before name op word sign named is) = record 
   parts = refl;
   is = step-first sign.kind op is;
 }
+
+pub simple-no_int : (kind : Kind) → starts_simple kind ≡ true → is_sign sign.Int kind ≡ false
+unfolding starts_simple
+simple-no_int k.Int is = absurd cc
+simple-no_int _ is = refl
+
+pub simple-no_long : (kind : Kind) → starts_simple kind ≡ true → is_sign sign.Long kind ≡ false
+unfolding starts_simple
+simple-no_long k.Long is = absurd cc
+simple-no_long _ is = refl
+
+pub simple-no_semicolon : (kind : Kind) → starts_simple kind ≡ true → is_sign sign.Semicolon kind ≡ false
+unfolding starts_simple
+simple-no_semicolon k.Semicolon is = absurd cc
+simple-no_semicolon _ is = refl
+
+pub simple-no_bracket : (kind : Kind) → starts_simple kind ≡ true → is_sign sign.CloseRound kind ≡ false
+unfolding starts_simple
+simple-no_bracket k.CloseRound is = absurd cc
+simple-no_bracket _ is = refl
 
 simple-starts : (kind : Kind) → starts_simple kind ≡ true → starts_statement kind ≡ true
 unfolding starts_simple starts_statement

@@ -15,3 +15,7 @@ pub mod Blocks
 pub mod Levels
 pub mod Statements
 pub mod Loops
+pub mod Firsts
+pub mod DeclarationsBack
+pub mod SimpleBack
+pub mod StatementsBack

@@ -7,7 +7,7 @@ use Rattle.c_reader.specs.Declarations.{Statement}
 use Rattle.c_reader.specs.ReadExpressions.{◌>>=◌}
 use Rattle.c_reader.specs.Signs.{behind_sign}
 use Rattle.c_reader.specs.ReadDeclarations.{Reads, listed_by, listed_within, listed_at}
-use Rattle.c_reader.specs.ReadStatements.{entries_by, entries_within}
+use Rattle.c_reader.specs.ReadStatements.{entry_at, entries_at, entries_by, entries_within}
 use Rattle.c_reader.proofs.Reading.{step, Front, IsSound, Front-shorter, SignFirst, behind_sign-found}
 
 -- a list that is read, behind what was read before
@@ -114,6 +114,15 @@ pub record EntriesSoFar (item : List Token → Reads Statement) (made : List Sta
   pub enough : length others < fuel
   pub same : prefixed made (entries_within item fuel others) ≡ whole
 
+pub entries-start : (room : ℕ) (inside : List Token → Reads Statement) (tokens : List Token)
+    → EntriesSoFar (entry_at room inside) [] tokens (entries_at room inside tokens)
+unfolding entries_at
+entries-start room inside tokens = record {
+  fuel = suc (length tokens);
+  enough = omega arith;
+  same = prefixed-nothing (entries_within (entry_at room inside) (suc (length tokens)) tokens);
+}
+
 closed-by : (item : List Token → Reads Statement) (made : List Statement) (others after : List Token)
     (whole : Reads (List Statement)) (n : ℕ) → length others < n → prefixed made (entries_within item n others) ≡ whole
     → behind_sign sign.CloseCurly others ≡ Some after → whole ≡ Some (made, after)
@@ -129,7 +138,7 @@ entries-closed item made others after whole so_far closing =
     closed-by item made others after whole so_far.fuel so_far.enough so_far.same closing
 
 -- where no brace closes the block, an entry is read
-on-by : (item : List Token → Reads Statement) (others : List Token) (n : ℕ) → behind_sign sign.CloseCurly others ≡ None
+pub on-by : (item : List Token → Reads Statement) (others : List Token) (n : ℕ) → behind_sign sign.CloseCurly others ≡ None
     → entries_within item (suc n) others ≡ (item others >>= λ x. entries_within item n x.1 >>= λ y. Some (x.0 ∷ y.0, y.1))
 on-by item others n none =
     ap (λ behind. entries_by behind (item others >>= λ x. entries_within item n x.1 >>= λ y. Some (x.0 ∷ y.0, y.1))) none

@@ -12,6 +12,8 @@ use Rattle.c_reader.specs.Faults.{Refuses}
 use Rattle.c_reader.specs.Expressions.{SpellsExpression, EndsExpression, expression_depth}
 use Rattle.c_reader.specs.ReadExpressions.{◌>>=◌, expression_at, IsDeeper}
 use Rattle.c_reader.specs.ReadDeclarations.{Reads, shallow_at}
+use Rattle.c_reader.proofs.Soundness.{expression_sound}
+use Rattle.c_reader.proofs.Completeness.{expression_complete}
 use Rattle.c_reader.proofs.Reading.{step, stepped, given, Front}
 
 deeper : (room depth : ℕ) → room < depth → nat_le depth room ≡ false
@@ -48,11 +50,9 @@ tested room x read false is found = absurd cc
 
 pub expression-front : (tokens : List Token) (read : RawExpression × List Token) → expression_at tokens ≡ Some read
     → Front SpellsExpression tokens read.0 read.1
-expression-front tokens read found = ?
-
-pub expression-behind : (e : RawExpression) (us after : List Token) → SpellsExpression e us → EndsExpression after
-    → expression_at (us ++ after) ≡ Some (e, after)
-expression-behind e us after spells ends = ?
+expression-front tokens read found =
+    let at = expression_sound tokens read.1 read.0 found in
+    record { front = at.front; parts = at.parts; spells = at.spells }
 
 pub shallow-sound : (room : ℕ) (tokens : List Token) (read : RawExpression × List Token)
     → shallow_at room tokens ≡ Some read → ShallowAt room tokens read.0 read.1
@@ -66,11 +66,4 @@ pub shallow-behind : (room : ℕ) (e : RawExpression) (us after : List Token) �
     → EndsExpression after → expression_depth e ≤ room → shallow_at room (us ++ after) ≡ Some (e, after)
 unfolding shallow_at
 shallow-behind room e us after spells ends less =
-    step _ (e, after) (expression-behind e us after spells ends) (rw (low room (expression_depth e) less) refl)
-
-pub expression_depth-positive : (e : RawExpression) → 1 ≤ expression_depth e
-expression_depth-positive (tree.Num z) = omega arith
-expression_depth-positive (tree.Named name line) = omega arith
-expression_depth-positive (tree.Un op e) = omega arith
-expression_depth-positive (tree.Bin op line e f) = omega arith
-expression_depth-positive (tree.Cond cond e f) = omega arith
+    step _ (e, after) (expression_complete e us after spells ends) (rw (low room (expression_depth e) less) refl)

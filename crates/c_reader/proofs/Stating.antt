@@ -22,7 +22,8 @@ use Rattle.c_reader.specs.Signs.{is_sign, behind_sign, begins}
 use Rattle.c_reader.specs.ReadDeclarations.{Reads, shallow_at, name_at, begins_type, declaration_at, unless}
 use Rattle.c_reader.specs.ReadStatements.{step_at, update_by, change_at, simple_by, simple_at, constant_by, constant_at, mark_at, condition_by, condition_at, start_at}
 use Rattle.c_reader.proofs.Reading.{stepped, behind_sign-found, SignFirst, HasSign, HasSign-from_test, Front, IsSound, given, append_parts, cons_parts}
-use Rattle.c_reader.proofs.Shallow.{shallow-sound, expression_depth-positive}
+use Rattle.c_reader.proofs.Shallow.{shallow-sound}
+use Rattle.c_reader.proofs.Depths.{depth-positive}
 use Rattle.c_reader.proofs.Declaring.{SpellsWithin, name_at-sound, declaration_at-sound}
 
 -- ---- assignments
@@ -78,7 +79,7 @@ updated-sound room name word first others (Some op) step read named is_update is
       parts = ap (λ (l : List Token). word ∷ first ∷ l) e.at.parts;
       spells = (
         spelled.SpellsSimple.update name op x.0.0 word first e.at.front named is_update e.at.spells,
-        omega (arith, e.within, expression_depth-positive x.0.0),
+        omega (arith, e.within, depth-positive x.0.0),
       );
     })
 updated-sound room name word first others None (Some op) read named is_update is_step found =

@@ -6,6 +6,7 @@
 #![tactic(auto)]
 
 mod declaration;
+mod depth;
 mod expression;
 mod fault;
 mod laws;
@@ -13,6 +14,8 @@ mod operators;
 mod sign;
 mod simple;
 mod statement;
+mod unit;
 
 pub use fault::ReadFault;
 pub use laws::one_tree;
+pub use unit::read_unit;

@@ -4,7 +4,7 @@ ghost use Rattle.c_ast.specs.RawView.{raw_expression_of, raw_condition_of, raw_p
 ghost use Rattle.c_reader.specs.Gives.{Gives};
 ghost use Rattle.c_reader.specs.Signs.{begins, behind_sign};
 ghost use Rattle.c_reader.specs.ReadDeclarations.{optional, unless};
-ghost use Rattle.c_reader.specs.ReadStatements.{simple_at, condition_at, start_at, if_at, while_at, do_at, head_at, for_at, ended, entry_at, entries_at, statement_at};
+ghost use Rattle.c_reader.specs.ReadStatements.{simple_at, condition_at, start_at, if_at, while_at, do_at, head_at, for_at, ended, entry_at, entries_at, block_at, short_at, statement_at};
 ghost use Rattle.c_reader.specs.declared.sign.Sign.{Sign};
 
 use crate::ReadFault;
@@ -22,6 +22,39 @@ fn ended(stmt: RawStmt, tokens: &[Token]) -> Result<(RawStmt, &[Token]), ReadFau
 {
     let others = expect(Sign::Semicolon, tokens)?;
     Ok((stmt, others))
+}
+
+// A statement in which no other stands: ";", "break" ";", "continue" ";", "return" expr ";", mark ";", or simple ";"
+fn read_short<'a>(
+    alloc: Global,
+    room: u32,
+    tokens: &'a [Token],
+) -> Result<(RawStmt, &'a [Token]), ReadFault>
+    ensures { Gives (λ x. (raw_put_in_front x.0, x.1.now)) result (short_at room tokens.now) }
+{
+    if room == 0 {
+        return Err(ReadFault::Grammar);
+    }
+    let Some((first, others)) = tokens.split_first() else {
+        return Err(ReadFault::Grammar);
+    };
+    match &first.kind {
+        Kind::Semicolon => Ok((RawStmt::Empty, others)),
+        Kind::Break => ended(RawStmt::Break(first.line), others),
+        Kind::Continue => ended(RawStmt::Continue(first.line), others),
+        Kind::Return => {
+            let (expr, after) = read_shallow(alloc, room - 1, others)?;
+            ended(RawStmt::Return(expr), after)
+        }
+        Kind::MarkWord => {
+            let (number, after) = read_mark(others)?;
+            ended(RawStmt::Mark(number), after)
+        }
+        _ => {
+            let (stmt, after) = read_simple(alloc, room, tokens)?;
+            ended(stmt, after)
+        }
+    }
 }
 
 // [init]
@@ -235,6 +268,19 @@ pub fn read_entries<'a>(
     }
 }
 
+// block, behind its "{"
+#[cycle(statement)]
+fn read_block<'a>(
+    alloc: Global,
+    room: u32,
+    tokens: &'a [Token],
+) -> Result<(RawStmt, &'a [Token]), ReadFault>
+    ensures { Gives (λ x. (raw_put_in_front x.0, x.1.now)) result (block_at room (statement_at room) tokens.now) }
+{
+    let (entries, after) = read_entries(alloc, room, tokens)?;
+    Ok((RawStmt::Block(entries), after))
+}
+
 // The longest statement at the front of the tokens.
 #[cycle(statement)]
 #[tactic(auto, unfolding(crate::specs::ReadStatements::statement_at))]
@@ -252,28 +298,11 @@ fn read_statement<'a>(
         return Err(ReadFault::Grammar);
     };
     match &first.kind {
-        Kind::OpenCurly => {
-            let (entries, after) = read_entries(alloc, room - 1, others)?;
-            Ok((RawStmt::Block(entries), after))
-        }
-        Kind::Semicolon => Ok((RawStmt::Empty, others)),
+        Kind::OpenCurly => read_block(alloc, room - 1, others),
         Kind::If => read_if(alloc, room - 1, others),
         Kind::While => read_while(alloc, room - 1, others),
         Kind::Do => read_do(alloc, room - 1, others),
         Kind::For => read_for(alloc, room - 1, others),
-        Kind::Break => ended(RawStmt::Break(first.line), others),
-        Kind::Continue => ended(RawStmt::Continue(first.line), others),
-        Kind::Return => {
-            let (expr, after) = read_shallow(alloc, room - 1, others)?;
-            ended(RawStmt::Return(expr), after)
-        }
-        Kind::MarkWord => {
-            let (number, after) = read_mark(others)?;
-            ended(RawStmt::Mark(number), after)
-        }
-        _ => {
-            let (stmt, after) = read_simple(alloc, room, tokens)?;
-            ended(stmt, after)
-        }
+        _ => read_short(alloc, room, tokens),
     }
 }

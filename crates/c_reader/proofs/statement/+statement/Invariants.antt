@@ -5,28 +5,28 @@ use Rattle.c_reader.proofs.Loops.{EntriesSoFar}
 use Rattle.c_reader.proofs.statement.+statement.Given as goal
 
 abbrev pub decreases-read_statement : goal.decreases-read_statement
-decreases-read_statement l = 3 * l.room
+decreases-read_statement l = 4 * l.room
 
 abbrev pub decreases-read_entry : goal.decreases-read_entry
-decreases-read_entry l = 3 * l.room + 1
+decreases-read_entry l = 4 * l.room + 1
 
 abbrev pub decreases-read_entries : goal.decreases-read_entries
-decreases-read_entries l = 3 * l.room + 2
+decreases-read_entries l = 4 * l.room + 2
 
 abbrev pub decreases-read_else : goal.decreases-read_else
-decreases-read_else l = 3 * l.room + 1
+decreases-read_else l = 4 * l.room + 1
 
 abbrev pub decreases-read_if : goal.decreases-read_if
-decreases-read_if l = 3 * l.room + 2
+decreases-read_if l = 4 * l.room + 2
 
 abbrev pub decreases-read_while : goal.decreases-read_while
-decreases-read_while l = 3 * l.room + 1
+decreases-read_while l = 4 * l.room + 1
 
 abbrev pub decreases-read_do : goal.decreases-read_do
-decreases-read_do l = 3 * l.room + 1
+decreases-read_do l = 4 * l.room + 1
 
 abbrev pub decreases-read_for : goal.decreases-read_for
-decreases-read_for l = 3 * l.room + 1
+decreases-read_for l = 4 * l.room + 1
 
 -- Behind the entries that are made so far come the others.
 abbrev pub invariant-read_entries-loop-after : goal.invariant-read_entries-loop-after
@@ -36,3 +36,6 @@ invariant-read_entries-loop-after l =
 
 abbrev pub decreases-read_entries-loop-after : goal.decreases-read_entries-loop-after
 decreases-read_entries-loop-after l = length l.others
+
+abbrev pub decreases-read_block : goal.decreases-read_block
+decreases-read_block l = 4 * l.room + 3
