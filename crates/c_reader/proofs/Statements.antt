@@ -13,7 +13,7 @@ use Rattle.c_reader.specs.Statements.{SpellsStatement, SpellsSimple, ends_open}
 use Rattle.c_reader.specs.Depth.{statements_depth}
 use Rattle.c_reader.specs.Signs.{begins}
 use Rattle.c_reader.specs.ReadDeclarations.{Reads, shallow_at}
-use Rattle.c_reader.specs.ReadStatements.{simple_at, mark_at, ended, entries_at, statement_by, statement_at}
+use Rattle.c_reader.specs.ReadStatements.{simple_at, mark_at, ended, entries_at, block_at, statement_by, statement_at}
 use Rattle.c_reader.proofs.Reading.{stepped, given, append_parts, cons_parts}
 use Rattle.c_reader.proofs.Shallow.{shallow-sound}
 use Rattle.c_reader.proofs.Stating.{simple_at-sound, mark_at-sound}
@@ -45,6 +45,7 @@ statement-by : (room : ℕ) (inside : List Token → Reads Statement) (first : T
     (read : Statement × List Token) → AreStatements room inside → first.kind ≡ kind
     → statement_by room inside kind first others ≡ Some read
     → StatementFirst (suc room) (first ∷ others) read.0 read.1
+unfolding block_at
 statement-by room inside first others k.OpenCurly read sound is found =
     let x = stepped (entries_at room inside others) _ read found in
     let at = entries_at-sound room inside others x.0 sound x.1 in

@@ -15,7 +15,7 @@ use Rattle.c_reader.specs.Statements.{SpellsStatement, SpellsEntries, SpellsSimp
 use Rattle.c_reader.specs.Depth.{condition_depth, statements_depth}
 use Rattle.c_reader.specs.Signs.{is_sign, behind_sign, begins}
 use Rattle.c_reader.specs.ReadDeclarations.{Reads, shallow_at, begins_type, declaration_at, optional, unless}
-use Rattle.c_reader.specs.ReadStatements.{simple_at, mark_at, condition_at, start_at, if_at, while_at, do_at, head_at, for_at, ended, entry_at, entries_within, entries_by, entries_at, statement_by, statement_at}
+use Rattle.c_reader.specs.ReadStatements.{simple_at, mark_at, condition_at, start_at, if_at, while_at, do_at, head_at, for_at, ended, entry_at, entries_within, entries_by, entries_at, block_at, statement_by, statement_at}
 use Rattle.c_reader.proofs.Reading.{step, behind_sign-here, test-from_HasSign, HasSign}
 use Rattle.c_reader.proofs.Shallow.{shallow-behind}
 use Rattle.c_reader.proofs.Levels.{declaration-level, statement-level}
@@ -349,7 +349,7 @@ block-behind : (room : ℕ) (entries : List Statement) (opening closing : Token)
     → entries_within (entry_at room (statement_at room)) (suc (length (us ++ closing ∷ after))) (us ++ closing ∷ after)
     ≡ Some (entries, after)
     → statement_at (suc room) ((opening ∷ (us ++ closing ∷ [])) ++ after) ≡ Some (tree.Block (raw_joined entries), after)
-unfolding statement_at entries_at
+unfolding statement_at entries_at block_at
 block-behind room entries opening closing us after is read =
     ap (λ (l : List Token). statement_at (suc room) (opening ∷ l)) (append_assoc us (closing ∷ []) after)
     ∙ ap (λ kind. statement_by room (statement_at room) kind opening (us ++ closing ∷ after)) is

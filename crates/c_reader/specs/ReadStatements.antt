@@ -137,7 +137,7 @@ unfoldable pub entries_at : ℕ → (List Token → Reads Statement) → List To
 entries_at room inside tokens = entries_within (entry_at room inside) (suc (length tokens)) tokens
 
 -- the block behind its `{`
-abbrev pub block_at : ℕ → (List Token → Reads Statement) → List Token → Reads Statement
+unfoldable pub block_at : ℕ → (List Token → Reads Statement) → List Token → Reads Statement
 block_at room inside tokens = entries_at room inside tokens >>= λ x. Some (tree.Block (raw_joined x.0), x.1)
 
 -- a statement in which no other stands, by its first token, and that token's kind

@@ -270,6 +270,7 @@ pub fn read_entries<'a>(
 
 // block, behind its "{"
 #[cycle(statement)]
+#[tactic(auto, unfolding(crate::specs::ReadStatements::block_at))]
 fn read_block<'a>(
     alloc: Global,
     room: u32,

@@ -1,6 +1,6 @@
 use Rattle.std.proofs.Common.{sym}
 use Rattle.c_reader.specs.Declarations.{SpellsParameter}
-use Rattle.c_reader.specs.ReadDeclarations.{parameter_at, listed_at}
+use Rattle.c_reader.specs.ReadDeclarations.{parameter_at}
 use Rattle.c_reader.proofs.Declaring.{parameter_at-sound}
 use Rattle.c_reader.proofs.Loops.{listed-start, listed-more, listed-shorter}
 use Rattle.c_reader.proofs.declaration.read_listed.Goals as goal
