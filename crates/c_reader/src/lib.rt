@@ -8,5 +8,7 @@
 mod expression;
 mod fault;
 mod operators;
+#[cfg(test)]
+mod tests;
 
 pub use fault::ReadFault;
