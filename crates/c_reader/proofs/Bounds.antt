@@ -27,15 +27,24 @@ pub level-short : (n : ℕ) → IsShort n → (level : ℕ) (tokens : List Token
     → level_within n level tokens ≡ Some (e, others) → length others < length tokens
 level-short n short level tokens e others is =
     let parts = LevelIs-from_level (operand_within n) (further_within n level) tokens e others is in
-    omega (arith, short.operand tokens parts.left parts.after parts.found, short.further level parts.left parts.after e others parts.goes_on)
+    omega (
+      arith,
+      short.operand tokens parts.left parts.after parts.found,
+      short.further level parts.left parts.after e others parts.goes_on,
+    )
 
 pub whole-short : (n : ℕ) → IsShort n → (tokens : List Token) (e : RawExpression) (others : List Token)
     → whole_within n tokens ≡ Some (e, others) → length others < length tokens
 whole-short n short tokens e others is =
     let parts = WholeIs-from_whole (operand_within n) (further_within n 1) (choice_within n) tokens e others is in
-    omega (arith, level-short n short 1 tokens parts.cond parts.after parts.found, short.choice parts.cond parts.after e others parts.goes_on)
+    omega (
+      arith,
+      level-short n short 1 tokens parts.cond parts.after parts.found,
+      short.choice parts.cond parts.after e others parts.goes_on,
+    )
 
-pub Passes-short : (is_it : Kind → Bool) (tokens others : List Token) → Passes is_it tokens others → length tokens ≡ length others + 1
+pub Passes-short : (is_it : Kind → Bool) (tokens others : List Token) → Passes is_it tokens others
+    → length tokens ≡ length others + 1
 Passes-short is_it tokens others passes = rw passes.parts (omega arith)
 
 pub IsNext-short : (level : ℕ) (tokens : List Token) (at : ℕ) (op : BinOp) (line : ℕ) (others : List Token)
@@ -52,7 +61,8 @@ operand-short n short token others e last (bracketed _ after _ is inside passes)
 operand-short n short token others e last (signed op f _ is operand) =
     omega (arith, short.operand others f last operand)
 
-further-short : (n : ℕ) → IsShort n → (level : ℕ) (left : RawExpression) (tokens : List Token) (e : RawExpression) (last : List Token)
+further-short : (n : ℕ) → IsShort n → (level : ℕ) (left : RawExpression) (tokens : List Token)
+    (e : RawExpression) (last : List Token)
     → JoinedIs left tokens level (λ above. level_within n above) (further_within n level) e last
     → length last ≤ length tokens
 further-short n short level left tokens e last (ends same all stops) = omega (arith, ap length all)

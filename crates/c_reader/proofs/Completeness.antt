@@ -19,7 +19,8 @@ next_operator-stops : (level : ℕ) (tokens : List Token) → Stops level tokens
 next_operator-stops level [] stops = refl
 next_operator-stops level (sign ∷ others) stops = by_operator (operator_of sign.kind) refl
   where
-    by_operator : (operator : Option (ℕ × BinOp)) → operator_of sign.kind ≡ operator → next_operator level (sign ∷ others) ≡ None
+    by_operator : (operator : Option (ℕ × BinOp)) → operator_of sign.kind ≡ operator
+        → next_operator level (sign ∷ others) ≡ None
     by_operator None is = rw is refl
     by_operator (Some (at, op)) is =
         let below : nat_le level at ≡ false = grind (arith, nat_tests, stops at op is) in
@@ -131,7 +132,8 @@ choice_at-chosen question colon cond e f vs ws others asks parts first second =
     choice_at-asked cond (question ∷ (vs ++ colon ∷ (ws ++ others))) (vs ++ colon ∷ (ws ++ others))
     (ap (λ (kind : Kind). if is_question kind then Some (vs ++ colon ∷ (ws ++ others)) else None) asks)
     ∙ ap (choice_from cond) first
-    ∙ ap (λ (kind : Kind). (if is_colon kind then Some (ws ++ others) else None) >>= λ after. choice_to cond e (expression_at after)) parts
+    ∙ ap (λ (kind : Kind). (if is_colon kind then Some (ws ++ others) else None)
+    >>= λ after. choice_to cond e (expression_at after)) parts
     ∙ ap (choice_to cond e) second
 
 read-chosen : (question colon : Token) (cond e f : RawExpression) (us vs ws : List Token) → question.kind ≡ k.Question

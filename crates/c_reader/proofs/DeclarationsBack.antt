@@ -1,5 +1,5 @@
 -- What spells a declaration is read as it.
-use Rattle.std.proofs.Common.{◌≡◌, ℕ, zero, suc, ◌<◌, ◌≤◌, ◌+◌, max, Bool, true, false, ◌||◌, if◌then◌else◌, List, [], ◌∷◌, ◌++◌, length, length-append, Option, Some, None, refl, sym, ap, subst, ◌∙◌, append_assoc, arith}
+use Rattle.std.proofs.Common.{◌≡◌, ℕ, zero, suc, ◌<◌, ◌≤◌, false, List, [], ◌∷◌, ◌++◌, length, length-append, Option, Some, None, refl, ap, ◌∙◌, append_assoc, arith}
 use Rattle.c_ast.specs.declared.func.Var.{Var}
 use Rattle.c_ast.specs.RawTree as tree
 use Rattle.c_ast.specs.RawTree.{RawExpression, RawDeclared}
@@ -8,13 +8,12 @@ use Rattle.c_tokens.specs.declared.kind.Kind.TheVariants as k
 use Rattle.c_tokens.specs.declared.token.Token.{Token}
 use Rattle.c_reader.specs.declared.sign.Sign.{Sign}
 use Rattle.c_reader.specs.declared.sign.Sign.TheVariants as sign
-use Rattle.c_reader.specs.Expressions.{SpellsExpression, EndsExpression, expression_depth}
-use Rattle.c_reader.specs.ReadExpressions.{◌>>=◌}
+use Rattle.c_reader.specs.Expressions.{EndsExpression}
 use Rattle.c_reader.specs.Declarations.{Statement, SpellsType, SpellsName, SpellsListed, SpellsOptional, SpellsInitialiser, SpellsDeclarator, SpellsDeclaration, SpellsParameter, SpellsParameters}
 use Rattle.c_reader.specs.Depth.{optional_depth, declarators_depth, statements_depth}
 use Rattle.c_reader.specs.Signs.{is_sign, behind_sign, begins, skipped}
-use Rattle.c_reader.specs.ReadDeclarations.{Reads, name_by, name_at, behind_type, shallow_at, declarator_at, declaration_at, parameter_at, parameters_by, parameters_at, optional, unless, listed_by, listed_within, listed_at}
-use Rattle.c_reader.proofs.Reading.{step, behind_sign-here, behind_sign-other, test-from_HasSign, HasSign}
+use Rattle.c_reader.specs.ReadDeclarations.{Reads, name_by, name_at, behind_type, shallow_at, declarator_at, declaration_at, parameter_at, parameters_by, parameters_at, optional, listed_by, listed_within, listed_at}
+use Rattle.c_reader.proofs.Reading.{step, behind_sign-here, behind_sign-other, test-from_HasSign}
 use Rattle.c_reader.proofs.Shallow.{shallow-behind}
 use Rattle.c_reader.proofs.Firsts.{FirstIs, FirstIs-append, starts_name, name-first, name-no_int, name-no_long, listed-first, starts_type, type-first, type-no_bracket, type-no_void, begins-not, behind_sign-not, skipped-not, ends-at}
 

@@ -1,6 +1,5 @@
 -- What is read as a declaration is spelled so.
-use Rattle.std.proofs.Common.{◌≡◌, ℕ, zero, suc, ◌<◌, ◌≤◌, ◌+◌, max, Bool, true, false, List, [], ◌∷◌, ◌++◌, length, Option, Some, None, refl, sym, ap, subst, ◌∙◌, append_assoc, inl, inr, ◌⊎◌, arith}
-use Rattle.std.proofs.lemmas.List.{append-nil}
+use Rattle.std.proofs.Common.{◌≡◌, ℕ, zero, suc, ◌≤◌, Bool, true, false, List, [], ◌∷◌, ◌++◌, length, Option, Some, None, refl, sym, ap, subst, ◌∙◌, append_assoc, inl, inr, ◌⊎◌, arith}
 use Rattle.c_ast.specs.declared.func.Var.{Var}
 use Rattle.c_ast.specs.RawTree as tree
 use Rattle.c_ast.specs.RawTree.{RawExpression, RawDeclared, RawStatements}
@@ -10,7 +9,6 @@ use Rattle.c_tokens.specs.declared.token.Token.{Token}
 use Rattle.c_reader.specs.declared.sign.Sign.{Sign}
 use Rattle.c_reader.specs.declared.sign.Sign.TheVariants as sign
 use Rattle.c_reader.specs.Expressions.{SpellsExpression, expression_depth}
-use Rattle.c_reader.specs.ReadExpressions.{◌>>=◌}
 use Rattle.c_reader.specs.Declarations as spelled
 use Rattle.c_reader.specs.Declarations.{Statement, SpellsType, SpellsName, SpellsListed, SpellsOptional}
 use Rattle.c_reader.specs.Signs.{is_sign, behind_sign, begins, skipped}

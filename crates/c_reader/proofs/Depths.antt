@@ -3,7 +3,7 @@ use Rattle.std.proofs.Common.{◌≡◌, ℕ, zero, suc, ◌≤◌, List, length
 use Rattle.c_ast.specs.RawTree.{RawExpression, Num, Named, Un, Bin, Cond}
 use Rattle.c_tokens.specs.declared.token.Token.{Token}
 use Rattle.c_reader.specs.Expressions.{expression_depth}
-use Rattle.c_reader.specs.ReadExpressions.{Reading, operand_within, further_within, further_at, choice_at, expression_at}
+use Rattle.c_reader.specs.ReadExpressions.{Reader, Further, operand_within, further_within, further_at, choice_at, expression_at}
 use Rattle.c_reader.proofs.Parts.{JoinedIs, JoinedIs-from_joined, ChosenIs, ChosenIs-from_chosen, ends, goes_on}
 use Rattle.c_reader.proofs.Bounds.{level_within}
 use Rattle.c_reader.proofs.Equations.{choice_at-is}
@@ -16,8 +16,8 @@ depth-positive (Un op e) = omega arith
 depth-positive (Bin op line e f) = omega arith
 depth-positive (Cond cond e f) = omega arith
 
-joined-depth : (left : RawExpression) (tokens : List Token) (level : ℕ) (right : ℕ → List Token → Reading)
-    (further : RawExpression → List Token → Reading) (e : RawExpression) (others : List Token)
+joined-depth : (left : RawExpression) (tokens : List Token) (level : ℕ) (right : ℕ → Reader)
+    (further : Further) (e : RawExpression) (others : List Token)
     → ((f : RawExpression) (after : List Token) → further f after ≡ Some (e, others) → expression_depth f ≤ expression_depth e)
     → JoinedIs left tokens level right further e others → expression_depth left ≤ expression_depth e
 joined-depth left tokens level right further e others deeper (ends same all none) = omega (arith, ap expression_depth same)

@@ -3,7 +3,7 @@ use Rattle.std.proofs.Common.{◌≡◌, ℕ, zero, suc, ◌<◌, ◌≤◌, Lis
 use Rattle.c_ast.specs.RawTree.{RawExpression, Bin, Cond}
 use Rattle.c_ast.specs.declared.expr.BinOp.{BinOp}
 use Rattle.c_tokens.specs.declared.token.Token.{Token}
-use Rattle.c_reader.specs.ReadExpressions.{◌>>=◌, Reading, behind, is_question, is_colon, next_operator, operand_by, joined_by, chosen_by, level_by, operand_within, further_within, choice_within, operand_at, further_at, level_at, choice_at, expression_at}
+use Rattle.c_reader.specs.ReadExpressions.{Reader, Further, NextOperator, ◌>>=◌, Reading, behind, is_question, is_colon, next_operator, operand_by, joined_by, chosen_by, level_by, operand_within, further_within, choice_within, operand_at, further_at, level_at, choice_at, expression_at}
 use Rattle.c_reader.proofs.Parts.{step-same, Passes-from_behind, IsNext-from_next}
 use Rattle.c_reader.proofs.Bounds.{level_within, whole_within, IsShort-all, level-short, whole-short, Passes-short, IsNext-short}
 
@@ -33,8 +33,8 @@ whole-same n m same tokens most most' =
     (omega (arith, level-short n (IsShort-all n) 1 tokens x.0 x.1 found)))
 
 -- Where an operator stands first, its operands are read alike.
-joined-same : (left : RawExpression) (tokens : List Token) (next : Option (ℕ × BinOp × ℕ × List Token))
-    (right right' : ℕ → List Token → Reading) (further further' : RawExpression → List Token → Reading)
+joined-same : (left : RawExpression) (tokens : List Token) (next : Option NextOperator)
+    (right right' : ℕ → Reader) (further further' : Further)
     → ((at : ℕ) (op : BinOp) (line : ℕ) (others : List Token) → next ≡ Some (at, op, line, others)
     → (right (suc at) others ≡ right' (suc at) others)
     × ((x : RawExpression × List Token) → right (suc at) others ≡ Some x
@@ -47,7 +47,7 @@ joined-same left tokens (Some (at, op, line, others)) right right' further furth
     (λ x. further' (Bin op line left x.0) x.1) both.0 both.1
 
 -- Where a `?` stands first, both values are read alike.
-chosen-same : (cond : RawExpression) (tokens : List Token) (first : Option (List Token)) (value value' : List Token → Reading)
+chosen-same : (cond : RawExpression) (tokens : List Token) (first : Option (List Token)) (value value' : Reader)
     → ((others : List Token) → first ≡ Some others
     → (value others ≡ value' others) × ((x : RawExpression × List Token) (after : List Token) → value others ≡ Some x
     → behind is_colon x.1 ≡ Some after → value after ≡ value' after))

@@ -1,17 +1,17 @@
 -- The first token of what is spelled.
-use Rattle.std.proofs.Common.{◌≡◌, ℕ, ◌<◌, Bool, true, false, ◌||◌, List, [], ◌∷◌, ◌++◌, length, Option, Some, None, if◌then◌else◌, refl, sym, ap, subst, ◌∙◌, inl, inr, ◌⊎◌, arith}
+use Rattle.std.proofs.Common.{◌≡◌, ℕ, ◌<◌, Bool, true, false, List, [], ◌∷◌, ◌++◌, length, Some, None, refl, sym, ap, ◌∙◌, arith}
 use Rattle.c_ast.specs.declared.func.Var.{Var}
 use Rattle.c_ast.specs.declared.expr.BinOp.{BinOp}
 use Rattle.c_ast.specs.declared.expr.UnOp.{UnOp}
-use Rattle.c_ast.specs.RawTree.{RawExpression, RawCondition, RawDeclared}
+use Rattle.c_ast.specs.RawTree.{RawExpression}
 use Rattle.c_tokens.specs.declared.kind.Kind.{Kind}
 use Rattle.c_tokens.specs.declared.kind.Kind.TheVariants as k
 use Rattle.c_tokens.specs.declared.token.Token.{Token}
 use Rattle.c_reader.specs.declared.sign.Sign.{Sign}
 use Rattle.c_reader.specs.declared.sign.Sign.TheVariants as sign
 use Rattle.c_reader.specs.Expressions.{SpellsAt, SpellsExpression, EndsExpression, operator_of, unary_of}
-use Rattle.c_reader.specs.Declarations.{Statement, SpellsType, SpellsName, SpellsListed, SpellsParameter, SpellsDeclaration}
-use Rattle.c_reader.specs.Statements.{SpellsStatement, SpellsSimple, SpellsMark, SpellsCondition, SpellsStart, SpellsEntries, step_of}
+use Rattle.c_reader.specs.Declarations.{Statement, SpellsType, SpellsName, SpellsListed}
+use Rattle.c_reader.specs.Statements.{SpellsStatement, SpellsSimple, SpellsMark, step_of}
 use Rattle.c_reader.specs.Signs.{is_sign, behind_sign, begins, skipped}
 use Rattle.c_reader.proofs.Reading.{behind_sign-other}
 

@@ -1,12 +1,11 @@
 -- The depth of a list is that of its first statement or of the others.
-use Rattle.std.proofs.Common.{◌≡◌, ℕ, max, List, [], ◌∷◌, Option, Some, None, arith}
+use Rattle.std.proofs.Common.{◌≡◌, max, List, arith}
 use Rattle.c_ast.specs.RawTree as tree
 use Rattle.c_ast.specs.RawTree.{RawStatements}
 use Rattle.c_tokens.specs.declared.token.Token.{Token}
-use Rattle.c_reader.specs.Expressions.{expression_depth}
 use Rattle.c_reader.specs.Declarations.{Statement, SpellsDeclaration}
-use Rattle.c_reader.specs.Statements.{SpellsStatement, SpellsSimple, updated}
-use Rattle.c_reader.specs.Depth.{condition_depth, declarators_depth, statements_depth}
+use Rattle.c_reader.specs.Statements.{SpellsStatement, SpellsSimple}
+use Rattle.c_reader.specs.Depth.{statements_depth}
 
 abbrev pub PutsInFront : Statement → Type 0
 PutsInFront s = (others : RawStatements) → statements_depth (s others) ≡ max (statements_depth (s tree.Nil)) (statements_depth others)

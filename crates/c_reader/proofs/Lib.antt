@@ -19,3 +19,7 @@ pub mod Firsts
 pub mod DeclarationsBack
 pub mod SimpleBack
 pub mod StatementsBack
+pub mod Files
+pub mod FilesBack
+pub mod ItemLoop
+pub mod Short

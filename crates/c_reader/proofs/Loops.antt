@@ -1,5 +1,5 @@
 -- Things that are read one after the other by a loop.
-use Rattle.std.proofs.Common.{◌≡◌, ℕ, zero, suc, ◌<◌, ◌≤◌, ◌+◌, List, [], ◌∷◌, ◌++◌, length, Option, Some, None, refl, sym, ap, subst, ◌∙◌, append_assoc, arith}
+use Rattle.std.proofs.Common.{◌≡◌, ℕ, zero, suc, ◌<◌, List, [], ◌∷◌, ◌++◌, length, Option, Some, None, refl, sym, ap, subst, ◌∙◌, append_assoc, arith}
 use Rattle.std.proofs.lemmas.List.{append-nil}
 use Rattle.c_tokens.specs.declared.token.Token.{Token}
 use Rattle.c_reader.specs.declared.sign.Sign.TheVariants as sign
@@ -8,7 +8,7 @@ use Rattle.c_reader.specs.ReadExpressions.{◌>>=◌}
 use Rattle.c_reader.specs.Signs.{behind_sign}
 use Rattle.c_reader.specs.ReadDeclarations.{Reads, listed_by, listed_within, listed_at}
 use Rattle.c_reader.specs.ReadStatements.{entry_at, entries_at, entries_by, entries_within}
-use Rattle.c_reader.proofs.Reading.{step, Front, IsSound, Front-shorter, SignFirst, behind_sign-found}
+use Rattle.c_reader.proofs.Reading.{step, IsSound, Front-shorter, SignFirst, behind_sign-found}
 
 -- a list that is read, behind what was read before
 abbrev pub prefixed : {X : Type 0} → List X → Reads (List X) → Reads (List X)

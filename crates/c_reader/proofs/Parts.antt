@@ -10,7 +10,7 @@ use Rattle.c_tokens.specs.declared.kind.Kind.{Kind}
 use Rattle.c_tokens.specs.declared.kind.Kind.TheVariants as k
 use Rattle.c_tokens.specs.declared.token.Token.{Token}
 use Rattle.c_reader.specs.Expressions.{unary_of, operator_of}
-use Rattle.c_reader.specs.ReadExpressions.{◌>>=◌, Reading, behind, is_closing, is_question, is_colon, next_operator, operand_by, joined_by, chosen_by, level_by, whole_by}
+use Rattle.c_reader.specs.ReadExpressions.{Reader, Further, NextOperator, ◌>>=◌, Reading, behind, is_closing, is_question, is_colon, next_operator, operand_by, joined_by, chosen_by, level_by, whole_by}
 
 -- a step that found something, and what the rest made of it
 pub record IsStep {A B : Type 0} (step : Option A) (go_on : A → Option B) (y : B) : Type 0 where
@@ -79,10 +79,10 @@ IsNext-from_next level (sign ∷ behind_it) at op line others is =
     let both = if-Some (nat_le level step.x.0) (step.x.0, step.x.1, sign.line, behind_it) (at, op, line, others) step.goes_on in
     record {
       sign = sign;
-      parts = ap (λ (x : ℕ × BinOp × ℕ × List Token). sign ∷ x.3) both.1;
-      operator = step.found ∙ ap (λ (x : ℕ × BinOp × ℕ × List Token). Some (x.0, x.1)) both.1;
-      binds = subst (λ (n : ℕ). level ≤ n) (ap (λ (x : ℕ × BinOp × ℕ × List Token). x.0) both.1) (grind (arith, nat_tests, both.0));
-      place = ap (λ (x : ℕ × BinOp × ℕ × List Token). x.2) both.1;
+      parts = ap (λ (x : NextOperator). sign ∷ x.3) both.1;
+      operator = step.found ∙ ap (λ (x : NextOperator). Some (x.0, x.1)) both.1;
+      binds = subst (λ (n : ℕ). level ≤ n) (ap (λ (x : NextOperator). x.0) both.1) (grind (arith, nat_tests, both.0));
+      place = ap (λ (x : NextOperator). x.2) both.1;
     }
 
 -- No operator of the level or of a tighter one stands first.
@@ -147,19 +147,19 @@ OperandIs-from_operand kind line others inside operand e last is =
     OperandIs-from_sign kind line others inside operand e last is
 
 -- what goes on from a left operand
-pub data JoinedIs (left : RawExpression) (tokens : List Token) (level : ℕ) (right : ℕ → List Token → Reading) (further : RawExpression → List Token → Reading) (e : RawExpression) (last : List Token) : Type 0 where
+pub data JoinedIs (left : RawExpression) (tokens : List Token) (level : ℕ) (right : ℕ → Reader) (further : Further) (e : RawExpression) (last : List Token) : Type 0 where
   ends : left ≡ e → tokens ≡ last → Stops level tokens → JoinedIs left tokens level right further e last
   goes_on : (at : ℕ) (op : BinOp) (line : ℕ) (others : List Token) (f : RawExpression) (after : List Token)
       → IsNext level tokens at op line others → right (suc at) others ≡ Some (f, after)
       → further (Bin op line left f) after ≡ Some (e, last) → JoinedIs left tokens level right further e last
 
-pub JoinedIs-from_joined : (left : RawExpression) (tokens : List Token) (level : ℕ) (right : ℕ → List Token → Reading)
-    (further : RawExpression → List Token → Reading) (e : RawExpression) (last : List Token)
+pub JoinedIs-from_joined : (left : RawExpression) (tokens : List Token) (level : ℕ) (right : ℕ → Reader)
+    (further : Further) (e : RawExpression) (last : List Token)
     → joined_by left tokens (next_operator level tokens) right further ≡ Some (e, last)
     → JoinedIs left tokens level right further e last
 JoinedIs-from_joined left tokens level right further e last is = by_next (next_operator level tokens) refl is
   where
-    by_next : (next : Option (ℕ × BinOp × ℕ × List Token)) → next_operator level tokens ≡ next
+    by_next : (next : Option NextOperator) → next_operator level tokens ≡ next
         → joined_by left tokens next right further ≡ Some (e, last) → JoinedIs left tokens level right further e last
     by_next None none is =
         let both = same_Some (left, tokens) (e, last) is in
@@ -170,13 +170,13 @@ JoinedIs-from_joined left tokens level right further e last is = by_next (next_o
         goes_on at op line others step.x.0 step.x.1 (IsNext-from_next level tokens at op line others some) step.found step.goes_on
 
 -- what goes on from a condition
-pub data ChosenIs (cond : RawExpression) (tokens : List Token) (value : List Token → Reading) (e : RawExpression) (last : List Token) : Type 0 where
+pub data ChosenIs (cond : RawExpression) (tokens : List Token) (value : Reader) (e : RawExpression) (last : List Token) : Type 0 where
   ends : cond ≡ e → tokens ≡ last → behind is_question tokens ≡ None → ChosenIs cond tokens value e last
   goes_on : (others after others' : List Token) (f g : RawExpression) → Passes is_question tokens others
       → value others ≡ Some (f, after) → Passes is_colon after others' → value others' ≡ Some (g, last)
       → Cond cond f g ≡ e → ChosenIs cond tokens value e last
 
-pub ChosenIs-from_chosen : (cond : RawExpression) (tokens : List Token) (value : List Token → Reading)
+pub ChosenIs-from_chosen : (cond : RawExpression) (tokens : List Token) (value : Reader)
     (e : RawExpression) (last : List Token)
     → chosen_by cond tokens (behind is_question tokens) value ≡ Some (e, last) → ChosenIs cond tokens value e last
 ChosenIs-from_chosen cond tokens value e last is = by_behind (behind is_question tokens) refl is
@@ -197,13 +197,13 @@ ChosenIs-from_chosen cond tokens value e last is = by_behind (behind is_question
         (ap (λ (x : RawExpression × List Token). x.0) both)
 
 -- an operand, and what goes on from it
-pub record LevelIs (operand : List Token → Reading) (further : RawExpression → List Token → Reading) (tokens : List Token) (e : RawExpression) (last : List Token) : Type 0 where
+pub record LevelIs (operand : Reader) (further : Further) (tokens : List Token) (e : RawExpression) (last : List Token) : Type 0 where
   pub left : RawExpression
   pub after : List Token
   pub found : operand tokens ≡ Some (left, after)
   pub goes_on : further left after ≡ Some (e, last)
 
-pub LevelIs-from_level : (operand : List Token → Reading) (further : RawExpression → List Token → Reading)
+pub LevelIs-from_level : (operand : Reader) (further : Further)
     (tokens : List Token) (e : RawExpression) (last : List Token) → level_by operand further tokens ≡ Some (e, last)
     → LevelIs operand further tokens e last
 LevelIs-from_level operand further tokens e last is =
@@ -211,13 +211,13 @@ LevelIs-from_level operand further tokens e last is =
     record { left = step.x.0; after = step.x.1; found = step.found; goes_on = step.goes_on }
 
 -- an or-expression, and what goes on from it
-pub record WholeIs (operand : List Token → Reading) (further choice : RawExpression → List Token → Reading) (tokens : List Token) (e : RawExpression) (last : List Token) : Type 0 where
+pub record WholeIs (operand : Reader) (further choice : Further) (tokens : List Token) (e : RawExpression) (last : List Token) : Type 0 where
   pub cond : RawExpression
   pub after : List Token
   pub found : level_by operand further tokens ≡ Some (cond, after)
   pub goes_on : choice cond after ≡ Some (e, last)
 
-pub WholeIs-from_whole : (operand : List Token → Reading) (further choice : RawExpression → List Token → Reading)
+pub WholeIs-from_whole : (operand : Reader) (further choice : Further)
     (tokens : List Token) (e : RawExpression) (last : List Token)
     → whole_by operand further choice tokens ≡ Some (e, last) → WholeIs operand further choice tokens e last
 WholeIs-from_whole operand further choice tokens e last is =

@@ -1,13 +1,13 @@
 -- Steps of reading: what follows from one that found something, and what makes one find it.
-use Rattle.std.proofs.Common.{◌≡◌, ℕ, suc, ◌<◌, ◌≤◌, ◌+◌, Bool, true, false, List, [], ◌∷◌, ◌++◌, length, length-append, Option, Some, None, refl, sym, ap, ◌∙◌, append_assoc, inl, inr, ◌⊎◌, arith}
+use Rattle.std.proofs.Common.{◌≡◌, ◌≤◌, Bool, true, false, List, [], ◌∷◌, ◌++◌, length, length-append, Option, Some, None, refl, sym, ap, ◌∙◌, append_assoc, inl, inr, ◌⊎◌, arith}
 use Rattle.c_tokens.specs.declared.kind.Kind.{Kind}
 use Rattle.c_tokens.specs.declared.kind.Kind.TheVariants as k
 use Rattle.c_tokens.specs.declared.token.Token.{Token}
 use Rattle.c_reader.specs.declared.sign.Sign.{Sign}
 use Rattle.c_reader.specs.declared.sign.Sign.TheVariants as sign
-use Rattle.c_reader.specs.ReadExpressions.{◌>>=◌, behind}
+use Rattle.c_reader.specs.ReadExpressions.{◌>>=◌}
 use Rattle.c_reader.specs.ReadDeclarations.{Reads}
-use Rattle.c_reader.specs.Signs.{is_sign, behind_sign, begins, skipped}
+use Rattle.c_reader.specs.Signs.{is_sign, behind_sign, begins}
 
 -- a step that finds this goes on from it
 pub step : {A B : Type 0} {m : Option A} (f : A → Option B) {r : Option B} (a : A) → m ≡ Some a → f a ≡ r → (m >>= f) ≡ r

@@ -9,7 +9,7 @@ use Rattle.c_tokens.specs.declared.kind.Kind.{Kind}
 use Rattle.c_tokens.specs.declared.kind.Kind.TheVariants as k
 use Rattle.c_tokens.specs.declared.token.Token.{Token}
 use Rattle.c_reader.specs.Expressions.{unary_of}
-use Rattle.c_reader.specs.ReadExpressions.{◌>>=◌, Reading, behind, is_question, is_colon, is_closing, next_operator, operand_by, joined_by, chosen_by, operand_at, further_at, level_at, choice_at, expression_at}
+use Rattle.c_reader.specs.ReadExpressions.{NextOperator, ◌>>=◌, Reading, behind, is_question, is_colon, is_closing, next_operator, operand_by, joined_by, chosen_by, operand_at, further_at, level_at, choice_at, expression_at}
 use Rattle.c_reader.proofs.Parts.{under_sign}
 use Rattle.c_reader.proofs.Equations.{operand_at-cons, level_at-is, expression_at-is, further_at-is, choice_at-is}
 
@@ -94,13 +94,13 @@ pub further_at-next : (level : ℕ) (left : RawExpression) (tokens : List Token)
     → further_at level left tokens ≡ operation_from level left at op line (level_at (suc at) others)
 further_at-next level left tokens at op line others is =
     further_at-is level left tokens
-    ∙ ap (λ (next : Option (ℕ × BinOp × ℕ × List Token)). joined_by left tokens next level_at (further_at level)) is
+    ∙ ap (λ (next : Option NextOperator). joined_by left tokens next level_at (further_at level)) is
 
 pub further_at-none : (level : ℕ) (left : RawExpression) (tokens : List Token) → next_operator level tokens ≡ None
     → further_at level left tokens ≡ Some (left, tokens)
 further_at-none level left tokens is =
     further_at-is level left tokens
-    ∙ ap (λ (next : Option (ℕ × BinOp × ℕ × List Token)). joined_by left tokens next level_at (further_at level)) is
+    ∙ ap (λ (next : Option NextOperator). joined_by left tokens next level_at (further_at level)) is
 
 -- ---- expressions
 

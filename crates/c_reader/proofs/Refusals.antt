@@ -37,6 +37,10 @@ deeper-same room reading other same deeper e others is = deeper e others (sym sa
 pub deeper-none : (room : ℕ) (reading : Reading) → reading ≡ None → IsDeeper room reading
 deeper-none room reading none e others is = absurd (cc (none, is))
 
+-- Equal readings have one depth.
+same-depth : (x y : RawExpression × List Token) → Some x ≡ Some y → expression_depth x.0 ≡ expression_depth y.0
+same-depth x y is = ap (λ (z : RawExpression × List Token). expression_depth z.0) (same_Some x y is)
+
 -- A reading that begins with a step is deeper than `room`, where each reading with an answer of the step is.
 deeper-step : (room : ℕ) (reading step : Reading) (go_on : RawExpression × List Token → Reading) → reading ≡ (step >>= go_on)
     → ((x : RawExpression × List Token) (e : RawExpression) (others : List Token) → step ≡ Some x → go_on x ≡ Some (e, others)
@@ -53,14 +57,14 @@ deeper-bracket room token others is deeper =
     deeper-step room (operand_at (token ∷ others)) (expression_at others) (λ x. behind is_closing x.1 >>= λ after. Some (x.0, after))
     (operand_at-bracket token others is) λ x e last found goes.
     let parts = step_of (behind is_closing x.1) (λ after. Some (x.0, after)) (e, last) goes in
-    omega (arith, deeper x.0 x.1 found, ap (λ (y : RawExpression × List Token). expression_depth y.0) (same_Some (x.0, parts.x) (e, last) parts.goes_on))
+    omega (arith, deeper x.0 x.1 found, same-depth (x.0, parts.x) (e, last) parts.goes_on)
 
 pub deeper-sign : (room : ℕ) (token : Token) (others : List Token) (op : UnOp) → unary_of token.kind ≡ Some op
     → IsDeeper (room - 1) (operand_at others) → IsDeeper room (operand_at (token ∷ others))
 deeper-sign room token others op is deeper =
     deeper-step room (operand_at (token ∷ others)) (operand_at others) (λ x. Some (Un op x.0, x.1))
     (operand_at-sign token others op is) λ x e last found goes.
-    omega (arith, deeper x.0 x.1 found, ap (λ (y : RawExpression × List Token). expression_depth y.0) (same_Some (Un op x.0, x.1) (e, last) goes))
+    omega (arith, deeper x.0 x.1 found, same-depth (Un op x.0, x.1) (e, last) goes)
 
 -- ---- levels
 
@@ -102,7 +106,7 @@ deeper-choice room tokens others behind_it cond is asked deeper =
     omega (
       arith,
       deeper x second.x colon.x found colon.found second.found,
-      ap (λ (y : RawExpression × List Token). expression_depth y.0) (same_Some (Cond cond x.0 second.x.0, second.x.1) (e, last) second.goes_on),
+      same-depth (Cond cond x.0 second.x.0, second.x.1) (e, last) second.goes_on,
     )
 
 -- No `:` stands behind the first value.

@@ -1,5 +1,5 @@
 -- What spells an assignment, a mark or a condition is read as it.
-use Rattle.std.proofs.Common.{◌≡◌, ℕ, zero, suc, pos, ◌<◌, ◌≤◌, ◌+◌, ◌-◌, max, Bool, true, false, ◌||◌, nat_le, if◌then◌else◌, List, [], ◌∷◌, ◌++◌, length, Option, Some, None, refl, sym, ap, subst, ◌∙◌, append_assoc, inl, inr, ◌⊎◌, arith}
+use Rattle.std.proofs.Common.{◌≡◌, ℕ, zero, suc, pos, ◌≤◌, ◌-◌, true, false, nat_le, List, ◌∷◌, ◌++◌, Some, None, refl, ap, ◌∙◌, arith}
 use Rattle.std.proofs.lemmas.Bool.Decides.{nat_tests}
 use Rattle.c_ast.specs.declared.expr.BinOp.{BinOp}
 use Rattle.c_ast.specs.RawTree as tree
@@ -7,21 +7,19 @@ use Rattle.c_ast.specs.RawTree.{RawExpression, RawCondition, RawStatements}
 use Rattle.c_tokens.specs.declared.kind.Kind.{Kind}
 use Rattle.c_tokens.specs.declared.kind.Kind.TheVariants as k
 use Rattle.c_tokens.specs.declared.token.Token.{Token}
-use Rattle.c_reader.specs.declared.sign.Sign.{Sign}
 use Rattle.c_reader.specs.declared.sign.Sign.TheVariants as sign
 use Rattle.c_reader.specs.Expressions.{SpellsExpression, EndsExpression, expression_depth}
 use Rattle.c_reader.specs.ReadExpressions.{◌>>=◌}
-use Rattle.c_reader.specs.Declarations.{Statement, SpellsName, SpellsOptional, SpellsDeclaration}
-use Rattle.c_reader.specs.Statements.{SpellsSimple, SpellsMark, SpellsCondition, SpellsStart, update_of, step_of, updated}
+use Rattle.c_reader.specs.Declarations.{Statement}
+use Rattle.c_reader.specs.Statements.{SpellsSimple, SpellsMark, SpellsCondition, update_of, step_of, updated}
 use Rattle.c_reader.specs.Depth.{statements_depth}
-use Rattle.c_reader.specs.Signs.{is_sign, behind_sign, begins}
-use Rattle.c_reader.specs.ReadDeclarations.{Reads, name_by, name_at, shallow_at, begins_type, declaration_at, unless}
-use Rattle.c_reader.specs.ReadStatements.{step_at, update_by, change_at, simple_by, simple_at, constant_by, constant_at, mark_at, condition_by, condition_at, start_at}
-use Rattle.c_reader.proofs.Reading.{step, behind_sign-here, test-from_HasSign, HasSign}
+use Rattle.c_reader.specs.Signs.{is_sign}
+use Rattle.c_reader.specs.ReadDeclarations.{name_by, name_at}
+use Rattle.c_reader.specs.ReadStatements.{step_at, update_by, change_at, simple_by, simple_at, constant_by, mark_at, condition_by, condition_at}
+use Rattle.c_reader.proofs.Reading.{step, behind_sign-here, test-from_HasSign}
 use Rattle.c_reader.proofs.Shallow.{shallow-behind}
 use Rattle.c_reader.proofs.Depths.{depth-positive}
-use Rattle.c_reader.proofs.Firsts.{FirstIs, FirstIs-append, begins-not, behind_sign-not, ends-at, expression-first, expression-no_mark, starts_expression}
-use Rattle.c_reader.proofs.DeclarationsBack.{kind-not, name-behind, declaration-behind}
+use Rattle.c_reader.proofs.Firsts.{FirstIs-append, behind_sign-not, expression-first, expression-no_mark, starts_expression}
 
 update-no_assign : (kind : Kind) (op : BinOp) → update_of kind ≡ Some op → is_sign sign.Assign kind ≡ false
 update-no_assign k.Assign op is = absurd cc

@@ -129,7 +129,8 @@ further-sound n sound level at left us whole tokens e last low most spells parts
     record {
       front = us;
       parts = parts ∙ ap (λ (l : List Token). us ++ l) all;
-      spells = lowered (at - level) level at e us (omega (arith, low)) (omega (arith, most)) (subst (λ (x : RawExpression). SpellsAt at x us) same spells);
+      spells = lowered (at - level) level at e us (omega (arith, low)) (omega (arith, most))
+          (subst (λ (x : RawExpression). SpellsAt at x us) same spells);
       stops = subst (Stops level) all none;
     }
 further-sound n sound level at left us whole tokens e last low most spells parts stops

@@ -1,21 +1,21 @@
 -- What spells a statement is read as it, where its depth leaves room.
-use Rattle.std.proofs.Common.{◌≡◌, ℕ, zero, suc, ◌<◌, ◌≤◌, ◌+◌, max, Bool, true, false, ◌||◌, if◌then◌else◌, List, [], ◌∷◌, ◌++◌, length, length-append, Option, Some, None, refl, sym, ap, subst, ◌∙◌, append_assoc, inl, inr, ◌⊎◌, arith}
+use Rattle.std.proofs.Common.{◌≡◌, ℕ, zero, suc, ◌<◌, ◌≤◌, Bool, true, false, ◌||◌, if◌then◌else◌, List, [], ◌∷◌, ◌++◌, length, length-append, Option, Some, None, refl, sym, ap, subst, ◌∙◌, append_assoc, arith}
 use Rattle.c_ast.specs.RawTree as tree
 use Rattle.c_ast.specs.RawTree.{RawExpression, RawCondition, RawStatements}
-use Rattle.c_ast.specs.RawView.{raw_joined, raw_one, raw_optional, raw_branches}
+use Rattle.c_ast.specs.RawView.{raw_joined, raw_one, raw_optional}
 use Rattle.c_tokens.specs.declared.kind.Kind.{Kind}
 use Rattle.c_tokens.specs.declared.kind.Kind.TheVariants as k
 use Rattle.c_tokens.specs.declared.token.Token.{Token}
 use Rattle.c_reader.specs.declared.sign.Sign.{Sign}
 use Rattle.c_reader.specs.declared.sign.Sign.TheVariants as sign
-use Rattle.c_reader.specs.Expressions.{SpellsExpression, EndsExpression, expression_depth}
+use Rattle.c_reader.specs.Expressions.{SpellsExpression, expression_depth}
 use Rattle.c_reader.specs.ReadExpressions.{◌>>=◌}
 use Rattle.c_reader.specs.Declarations.{Statement, SpellsOptional, SpellsDeclaration}
 use Rattle.c_reader.specs.Statements.{SpellsStatement, SpellsEntries, SpellsSimple, SpellsMark, SpellsCondition, SpellsStart, ends_open}
 use Rattle.c_reader.specs.Depth.{condition_depth, statements_depth}
-use Rattle.c_reader.specs.Signs.{is_sign, behind_sign, begins}
-use Rattle.c_reader.specs.ReadDeclarations.{Reads, shallow_at, begins_type, declaration_at, optional, unless}
-use Rattle.c_reader.specs.ReadStatements.{simple_at, mark_at, condition_at, start_at, if_at, while_at, do_at, head_at, for_at, ended, entry_at, entries_within, entries_by, entries_at, block_at, statement_by, statement_at}
+use Rattle.c_reader.specs.Signs.{is_sign, begins}
+use Rattle.c_reader.specs.ReadDeclarations.{Reads, begins_type, declaration_at, optional, unless}
+use Rattle.c_reader.specs.ReadStatements.{simple_at, condition_at, start_at, if_at, while_at, do_at, head_at, for_at, ended, entry_at, entries_within, entries_by, entries_at, block_at, statement_by, statement_at}
 use Rattle.c_reader.proofs.Reading.{step, behind_sign-here, test-from_HasSign, HasSign}
 use Rattle.c_reader.proofs.Shallow.{shallow-behind}
 use Rattle.c_reader.proofs.Levels.{declaration-level, statement-level}
@@ -78,7 +78,7 @@ begins-append : (s : Sign) (us vs : List Token) → 0 < length us → begins s u
 begins-append s [] vs some is = absurd (omega (arith, some))
 begins-append s (first ∷ others) vs some is = is
 
-unless-behind : {X : Type 0} (Spells : X → List Token → Type 0) (item : List Token → Reads X) (s : Sign) (x : Option X)
+pub unless-behind : {X : Type 0} (Spells : X → List Token → Type 0) (item : List Token → Reads X) (s : Sign) (x : Option X)
     (us : List Token) (closing : Token) (after : List Token) → SpellsOptional Spells x us → HasSign s closing.kind
     → ((y : X) (vs : List Token) → Spells y vs → (begins s (vs ++ closing ∷ after) ≡ false)
     × (item (vs ++ closing ∷ after) ≡ Some (y, closing ∷ after)))

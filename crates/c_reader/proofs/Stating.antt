@@ -1,27 +1,23 @@
 -- What is read as a statement is spelled so, and is no deeper than its room.
-use Rattle.std.proofs.Common.{◌≡◌, ℕ, zero, suc, pos, ◌<◌, ◌≤◌, ◌+◌, ◌-◌, max, Bool, true, false, nat_le, if◌then◌else◌, List, [], ◌∷◌, ◌++◌, length, Option, Some, None, refl, sym, ap, subst, ◌∙◌, append_assoc, inl, inr, ◌⊎◌, arith}
+use Rattle.std.proofs.Common.{◌≡◌, ℕ, zero, suc, pos, ◌≤◌, ◌-◌, Bool, true, false, nat_le, if◌then◌else◌, List, [], ◌∷◌, ◌++◌, Option, Some, None, refl, ap, subst, ◌∙◌, arith}
 use Rattle.std.proofs.lemmas.Bool.Decides.{nat_tests}
-use Rattle.std.proofs.lemmas.List.{append-nil}
 use Rattle.c_ast.specs.declared.expr.BinOp.{BinOp}
 use Rattle.c_ast.specs.RawTree as tree
 use Rattle.c_ast.specs.RawTree.{RawExpression, RawCondition, RawStatements}
-use Rattle.c_ast.specs.RawView.{raw_joined, raw_one, raw_optional, raw_branches}
 use Rattle.c_tokens.specs.declared.kind.Kind.{Kind}
 use Rattle.c_tokens.specs.declared.kind.Kind.TheVariants as k
 use Rattle.c_tokens.specs.declared.token.Token.{Token}
-use Rattle.c_reader.specs.declared.sign.Sign.{Sign}
 use Rattle.c_reader.specs.declared.sign.Sign.TheVariants as sign
-use Rattle.c_reader.specs.Expressions.{SpellsExpression, expression_depth}
+use Rattle.c_reader.specs.Expressions.{expression_depth}
 use Rattle.c_reader.specs.ReadExpressions.{◌>>=◌}
 use Rattle.c_ast.specs.declared.func.Var.{Var}
-use Rattle.c_reader.specs.Declarations.{Statement, SpellsName, SpellsDeclaration, SpellsOptional}
+use Rattle.c_reader.specs.Declarations.{Statement, SpellsName}
 use Rattle.c_reader.specs.Statements as spelled
 use Rattle.c_reader.specs.Statements.{update_of, step_of, updated, ends_open}
-use Rattle.c_reader.specs.Depth.{condition_depth, statements_depth}
-use Rattle.c_reader.specs.Signs.{is_sign, behind_sign, begins}
-use Rattle.c_reader.specs.ReadDeclarations.{Reads, shallow_at, name_at, begins_type, declaration_at, unless}
+use Rattle.c_reader.specs.Signs.{is_sign, behind_sign}
+use Rattle.c_reader.specs.ReadDeclarations.{shallow_at, name_at, begins_type, declaration_at}
 use Rattle.c_reader.specs.ReadStatements.{step_at, update_by, change_at, simple_by, simple_at, constant_by, constant_at, mark_at, condition_by, condition_at, start_at}
-use Rattle.c_reader.proofs.Reading.{stepped, behind_sign-found, SignFirst, HasSign, HasSign-from_test, Front, IsSound, given, append_parts, cons_parts}
+use Rattle.c_reader.proofs.Reading.{stepped, behind_sign-found, HasSign-from_test, Front, IsSound, given, append_parts, cons_parts}
 use Rattle.c_reader.proofs.Shallow.{shallow-sound}
 use Rattle.c_reader.proofs.Depths.{depth-positive}
 use Rattle.c_reader.proofs.Declaring.{SpellsWithin, name_at-sound, declaration_at-sound}

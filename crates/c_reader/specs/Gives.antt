@@ -1,7 +1,5 @@
 -- What a step of reading answers.
-use Rattle.std.specs.Prelude.{◌≡◌, List, Result, Ok, Err, Option, Some, None}
-use Rattle.c_ast.specs.declared.raw.RawExpr.{RawExpr}
-use Rattle.c_tokens.specs.declared.token.Token.{Token}
+use Rattle.std.specs.Prelude.{◌≡◌, Result, Ok, Err, Option, Some, None}
 use Rattle.c_reader.specs.declared.fault.ReadFault.{ReadFault}
 use Rattle.c_reader.specs.Faults.{Refuses}
 

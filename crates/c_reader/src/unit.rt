@@ -4,7 +4,7 @@ ghost use Rattle.c_ast.specs.RawTree.{RawFunction};
 ghost use Rattle.c_ast.specs.RawView.{raw_function_of};
 ghost use Rattle.c_reader.specs.Gives.{Gives};
 ghost use Rattle.c_reader.specs.Signs.{begins};
-ghost use Rattle.c_reader.specs.Units.{SpellsUnit};
+ghost use Rattle.c_reader.specs.Units.{SpellsUnit, HasOneTree};
 ghost use Rattle.c_reader.specs.Depth.{IsDeep, unit_depth};
 ghost use Rattle.c_reader.specs.ReadDeclarations.{unless, name_at};
 ghost use Rattle.c_reader.specs.ReadUnits.{unqualified, mark_declaration_at, function_at, item_at, unit_at};
@@ -148,3 +148,8 @@ pub fn read_unit(alloc: Global, tokens: &[Token]) -> Result<RawUnit, ReadFault>
     let funcs = read_items(alloc, DEEPEST, tokens)?;
     Ok(RawUnit { funcs })
 }
+
+/// A law: tokens spell one list of functions at most.
+pub fn one_tree()
+    ensures { HasOneTree }
+{}

@@ -24,7 +24,8 @@ read_expression-returns-in_default-clause-read t c =
 pub read_expression-returns-in_err-inside-clause-refused : goal.read_expression-returns-in_err-inside-clause-refused
 read_expression-returns-in_err-inside-clause-refused t c =
     let p = err_from_is_err_and c.from_residual-in_err-inside.result c.from_residual-in_err-inside.ensures.1 in
-    let too_deep : c.args.room ≤ c.in_ok-cond.cond.depth → IsDeeper c.args.room (expression_at c.args.tokens.now) =
+    let too_deep : c.args.room ≤ c.in_ok-cond.cond.depth
+    → IsDeeper c.args.room (expression_at c.args.tokens.now) =
     λ most. deeper-choice c.args.room c.args.tokens.now _ _ _ c.in_ok-cond.ensures.read (sym c.in-Some.ensures.behind)
     λ x y after first colon second. omega (arith, most, c.in_ok-cond.cond.measured) in
     handed_on too_deep c.from_residual-in_err-inside.result p.0 c.in_err-inside.field-0.0 p.1 p.2 c.in_err-inside.ensures.refused
@@ -32,7 +33,8 @@ read_expression-returns-in_err-inside-clause-refused t c =
 pub read_expression-returns-in_err-first-clause-refused : goal.read_expression-returns-in_err-first-clause-refused
 read_expression-returns-in_err-first-clause-refused t c =
     let p = err_from_is_err_and c.from_residual-in_err-first.result c.from_residual-in_err-first.ensures.1 in
-    let too_deep : IsDeeper c.in_ok-inside.inside (expression_at c.in-Some.others.now) → IsDeeper c.args.room (expression_at c.args.tokens.now) =
+    let too_deep : IsDeeper c.in_ok-inside.inside (expression_at c.in-Some.others.now)
+    → IsDeeper c.args.room (expression_at c.args.tokens.now) =
     λ deeper. deeper-choice c.args.room c.args.tokens.now _ _ _ c.in_ok-cond.ensures.read (sym c.in-Some.ensures.behind)
     λ x y after first colon second. omega (arith, deeper x.0 x.1 first, c.in_ok-inside.ensures.room) in
     handed_on too_deep c.from_residual-in_err-first.result p.0 c.in_err-first.field-0.0 p.1 p.2 c.in_err-first.ensures.refused
