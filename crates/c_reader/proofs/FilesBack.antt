@@ -1,6 +1,10 @@
 -- What spells a file is read as it, where its depth leaves room.
-use Rattle.std.proofs.Common.{◌≡◌, ℕ, zero, suc, ◌<◌, ◌≤◌, max, false, List, [], ◌∷◌, ◌++◌, length, length-append, Option, Some, None, refl, sym, ap, ◌∙◌, append_assoc, ◌⊎◌, arith}
-use Rattle.std.specs.Prelude.{option_to_list}
+use Rattle.std.proofs.Common.{◌≡◌, ℕ, zero, suc, ◌<◌, ◌≤◌, max, false, List, [], ◌∷◌, ◌++◌, length, length-append, Option, Some, None, refl, sym, ap, ◌∙◌, append_assoc, inl, inr, ◌⊎◌, arith}
+use Rattle.std.specs.Prelude.{option_to_list, IsErrOf, Result, Ok, Err}
+use Rattle.std.proofs.lemmas.Bool.{cases_lt}
+use Rattle.c_reader.specs.declared.fault.ReadFault.{ReadFault}
+use Rattle.c_reader.specs.declared.fault.ReadFault.TheVariants.{Deep, Grammar, Memory}
+use Rattle.c_reader.specs.Faults.{Refuses}
 use Rattle.c_ast.specs.declared.func.Var.{Var}
 use Rattle.c_ast.specs.RawTree.{RawFunction}
 use Rattle.c_ast.specs.RawView.{raw_joined}
@@ -177,3 +181,23 @@ unit-one tokens first second spells others =
     let read : Some first ≡ Some second = sym (unit-behind room tokens first spells (omega arith))
     ∙ unit-behind room tokens second others (omega arith) in
     cc
+
+too_deep : (room : ℕ) (tokens : List Token) (funcs : List RawFunction) → unit_at room tokens ≡ None
+    → SpellsUnit tokens funcs → suc room < unit_depth funcs
+too_deep room tokens funcs none spells = elim (cases_lt (suc room) (unit_depth funcs)) [
+  | inl deep ↦ deep
+  | inr low ↦ absurd (let read : None ≡ Some funcs = sym none ∙ unit-behind room tokens funcs spells low in cc)
+]
+
+grammar-by : (fault : ReadFault) (reason : Type 0) → fault ≡ Grammar → Refuses reason fault → reason
+grammar-by Deep reason is refused = absurd refused
+grammar-by Grammar reason is refused = refused
+grammar-by Memory reason is refused = absurd cc
+
+-- Where a reading of all tokens is refused as `Grammar`, what they spell is too deep.
+pub refused-deep : {X : Type 0} (room : ℕ) (tokens : List Token) (funcs : List RawFunction) (fault : ReadFault)
+    (answer : Result X ReadFault) (given : ReadFault) → answer ≡ Err given → given ≡ fault → IsErrOf answer Grammar
+    → Refuses (unit_at room tokens ≡ None) fault → SpellsUnit tokens funcs → suc room < unit_depth funcs
+refused-deep room tokens funcs fault answer given is same is_grammar refused spells =
+    let grammar : fault ≡ Grammar = cc in
+    too_deep room tokens funcs (grammar-by fault (unit_at room tokens ≡ None) grammar refused) spells

@@ -1,6 +1,6 @@
 -- Items that are read one after the other by a loop.
-use Rattle.std.proofs.Common.{◌≡◌, ℕ, zero, suc, ◌<◌, ◌≤◌, List, [], ◌∷◌, ◌++◌, length, Option, Some, None, refl, sym, ap, subst, ◌∙◌, append_assoc, arith}
-use Rattle.std.specs.Prelude.{option_to_list}
+use Rattle.std.proofs.Common.{◌≡◌, map, ℕ, zero, suc, ◌<◌, ◌≤◌, List, [], ◌∷◌, ◌++◌, length, Option, Some, None, refl, sym, ap, subst, ◌∙◌, append_assoc, arith}
+use Rattle.std.specs.Prelude.{option_to_list, option_map}
 use Rattle.std.proofs.lemmas.List.{append-nil}
 use Rattle.c_ast.specs.RawTree.{RawFunction}
 use Rattle.c_tokens.specs.declared.token.Token.{Token}
@@ -78,3 +78,7 @@ pub items-read : (room : ℕ) (made new : List RawFunction) (item : Option RawFu
 items-read room made new item others behind whole some so_far read pushed =
     subst (λ (l : List RawFunction). ItemsSoFar room l behind whole) (sym pushed)
     (read-by room so_far.fuel made item others behind whole some so_far.enough so_far.same read)
+
+pub map-option : {X Y : Type 0} (f : X → Y) (x : Option X) → map f (option_to_list x) ≡ option_to_list (option_map f x)
+map-option f None = refl
+map-option f (Some x) = refl

@@ -18,7 +18,7 @@ use crate::statement::read_entries;
 use c_ast::{RawFunc, RawUnit, Var};
 use c_tokens::Token;
 use sqlite_items::Items;
-use std::alloc::{AllocFailed, Global};
+use std::alloc::{AllocError, Global};
 
 /// The greatest depth of a statement or declaration that stands in a function's block: the block adds 1.
 const DEEPEST: u32 = 399;
@@ -102,7 +102,7 @@ fn read_item<'a>(
     Ok((Some(func), after))
 }
 
-fn push_some(funcs: &mut Items<RawFunc>, func: Option<RawFunc>) -> Result<(), ReadFault>
+fn push_some(funcs: &mut Items<RawFunc>, func: Option<RawFunc>) -> Result<(), AllocError>
     ensures { OnOk result (funcs.new ≡ funcs.old ++ option_to_list func) }
 {
     if let Some(func) = func {
