@@ -23,3 +23,4 @@ pub mod Files
 pub mod FilesBack
 pub mod ItemLoop
 pub mod Short
+pub mod Shaped

@@ -131,13 +131,19 @@ head-behind room start cond each opening first second closing us vs ws after a b
     (λ s xs spells. (start-first s xs (first ∷ middle) spells.0, start-behind s xs first middle room spells.0 b spells.1)))
     (step _ middle (behind_sign-here sign.Semicolon first middle b)
     (step _ (cond, second ∷ last) (unless-behind (SpellsShallowCondition room) (condition_at room) sign.Semicolon cond vs second last spells_cond c
-    (λ x xs spells. (condition-no_semicolon x xs (second ∷ last) spells.0, condition-behind room x xs (second ∷ last) spells.0 spells.1
-    (ends-at k.Semicolon second last c refl (λ asks. cc)))))
+    (λ x xs spells. (
+      condition-no_semicolon x xs (second ∷ last) spells.0,
+      condition-behind room x xs (second ∷ last) spells.0 spells.1
+          (ends-at k.Semicolon second last c refl (λ asks. cc)),
+    )))
     (step _ last (behind_sign-here sign.Semicolon second last c)
     (step _ (each, closing ∷ after) (unless-behind (SpellsWithin SpellsSimple room) (simple_at room) sign.CloseRound each ws closing after spells_each d
-    (λ s xs spells. (begins-not starts_simple sign.CloseRound (xs ++ closing ∷ after) simple-no_bracket
-    (FirstIs-append starts_simple xs (closing ∷ after) (simple-first s xs spells.0)), simple-behind s xs (closing ∷ after) room spells.0 spells.1
-    (ends-at k.CloseRound closing after d refl (λ asks. cc)))))
+    (λ s xs spells. (
+      begins-not starts_simple sign.CloseRound (xs ++ closing ∷ after) simple-no_bracket
+          (FirstIs-append starts_simple xs (closing ∷ after) (simple-first s xs spells.0)),
+      simple-behind s xs (closing ∷ after) room spells.0 spells.1
+          (ends-at k.CloseRound closing after d refl (λ asks. cc)),
+    )))
     (step _ after (behind_sign-here sign.CloseRound closing after d) refl))))))
 
 -- ---- statements by their first words

@@ -100,7 +100,7 @@ assigned-sound room name word first others true read named is found =
       parts = ap (λ (l : List Token). word ∷ first ∷ l) e.at.parts;
       spells = (
         spelled.SpellsSimple.assignment name x.0.0 word first e.at.front named (HasSign-from_test sign.Assign first.kind is)
-          e.at.spells,
+            e.at.spells,
         omega (arith, e.within),
       );
     })

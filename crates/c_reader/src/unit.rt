@@ -1,6 +1,7 @@
 //! Files of functions (ISO C11, 6.9), by recursive descent. `room` is the greatest depth of what stands in a block.
-ghost use Rattle.std.specs.Prelude.{◌≡◌, ◌≤◌, ◌<◌, ◌++◌, ◌↔◌, List, map, option_map, option_to_list, IsTrue, IfOk, IsErrOf, OnOk};
+ghost use Rattle.std.specs.Prelude.{◌≡◌, ◌≤◌, ◌<◌, ◌++◌, ◌↔◌, List, All, map, option_map, option_to_list, IsTrue, IfOk, IsErrOf, OnOk};
 ghost use Rattle.c_ast.specs.RawTree.{RawFunction};
+ghost use Rattle.c_ast.specs.RawShape.{IsShaped};
 ghost use Rattle.c_ast.specs.RawView.{raw_function_of};
 ghost use Rattle.c_reader.specs.Gives.{Gives};
 ghost use Rattle.c_reader.specs.Signs.{begins};
@@ -135,6 +136,7 @@ pub fn read_unit(alloc: Global, tokens: &[Token]) -> Result<RawUnit, ReadFault>
     ensures spelled { IfOk result (λ unit. SpellsUnit tokens.now (map raw_function_of unit.funcs)) }
     ensures shallow { IfOk result (λ unit. unit_depth (map raw_function_of unit.funcs) ≤ 400) }
     ensures nested { IfOk result (λ unit. ¬ IsDeep tokens.now) }
+    ensures shaped { IfOk result (λ unit. All IsShaped (map raw_function_of unit.funcs)) }
 
     // Why there is none.
     ensures deep { IsErrOf result ReadFault.Deep → IsDeep tokens.now }

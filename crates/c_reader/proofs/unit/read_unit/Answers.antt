@@ -1,6 +1,7 @@
 use Rattle.std.proofs.lemmas.Result.{err_from_is_err_and}
 use Rattle.c_reader.proofs.FilesBack.{refused-deep}
 use Rattle.c_reader.proofs.Files.{unit_at-sound}
+use Rattle.c_reader.proofs.Shaped.{shaped_unit}
 use Rattle.c_reader.proofs.unit.read_unit.Goals as goal
 
 pub returns-in_err-funcs-clause-none : goal.returns-in_err-funcs-clause-none
@@ -14,3 +15,6 @@ returns-clause-spelled c = (unit_at-sound 399 c.args.tokens.now _ c.in_ok-funcs.
 
 pub returns-clause-shallow : goal.returns-clause-shallow
 returns-clause-shallow c = (unit_at-sound 399 c.args.tokens.now _ c.in_ok-funcs.ensures).1
+
+pub returns-clause-shaped : goal.returns-clause-shaped
+returns-clause-shaped c = shaped_unit c.args.tokens.now _ (unit_at-sound 399 c.args.tokens.now _ c.in_ok-funcs.ensures).0
