@@ -1,6 +1,6 @@
 -- What spells a file is read as it, where its depth leaves room.
 use Rattle.std.proofs.Common.{◌≡◌, ℕ, zero, suc, ◌<◌, ◌≤◌, max, false, List, [], ◌∷◌, ◌++◌, length, length-append, Option, Some, None, refl, sym, ap, ◌∙◌, append_assoc, inl, inr, ◌⊎◌, arith}
-use Rattle.std.specs.Prelude.{option_to_list, IsErrOf, Result, Ok, Err}
+use Rattle.std.specs.Prelude.{option_to_list, IsErrOf, Result, Err}
 use Rattle.std.proofs.lemmas.Bool.{cases_lt}
 use Rattle.c_reader.specs.declared.fault.ReadFault.{ReadFault}
 use Rattle.c_reader.specs.declared.fault.ReadFault.TheVariants.{Deep, Grammar, Memory}
