@@ -182,8 +182,8 @@ SpellsShallow room e us = SpellsExpression e us × (expression_depth e ≤ room)
 
 pub shallow_at-sound : (room : ℕ) → IsSound (SpellsShallow room) (shallow_at room)
 shallow_at-sound room tokens read found =
-    let e = shallow-sound room tokens read found in
-    record { front = e.at.front; parts = e.at.parts; spells = (e.at.spells, e.within) }
+    let value = shallow-sound room tokens read found in
+    record { front = value.at.front; parts = value.at.parts; spells = (value.at.spells, value.within) }
 
 -- The tokens spell the initialiser, and it is shallow.
 abbrev SpellsShallowInitialiser : ℕ → RawExpression → List Token → Type 0

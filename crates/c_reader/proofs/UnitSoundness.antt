@@ -17,9 +17,9 @@ use Rattle.c_reader.specs.ReadStatements.{entries_at, statement_at}
 use Rattle.c_reader.specs.ReadUnits.{unqualified, mark_declaration_at, function_at, item_by, item_at, items_within, unit_at}
 use Rattle.c_reader.proofs.Reading.{stepped, behind_sign-found, HasSign-from_test, given, append_parts, cons_parts}
 use Rattle.c_reader.proofs.Firsts.{FirstIs-some, starts_type, type-first}
-use Rattle.c_reader.proofs.Declaring.{name_at-sound, behind_type-sound, TypeFirst, unless-sound, parameters_at-sound}
-use Rattle.c_reader.proofs.Blocks.{entries_at-sound}
-use Rattle.c_reader.proofs.Statements.{statement_at-sound}
+use Rattle.c_reader.proofs.DeclarationSoundness.{name_at-sound, behind_type-sound, TypeFirst, unless-sound, parameters_at-sound}
+use Rattle.c_reader.proofs.BlockSoundness.{entries_at-sound}
+use Rattle.c_reader.proofs.StatementSoundness.{statement_at-sound}
 
 -- Qualifiers stand first, and then the tokens without them.
 record QualifiersFirst (tokens : List Token) : Type 0 where

@@ -7,7 +7,7 @@ use Rattle.c_tokens.specs.declared.token.Token.{Token}
 use Rattle.c_reader.specs.ReadExpressions.{◌>>=◌}
 use Rattle.c_reader.specs.ReadUnits.{item_at, items_within, unit_at}
 use Rattle.c_reader.proofs.Reading.{step}
-use Rattle.c_reader.proofs.Files.{item_at-shorter}
+use Rattle.c_reader.proofs.UnitSoundness.{item_at-shorter}
 
 -- functions that are read, behind those that were read before
 abbrev after : List RawFunction → Option (List RawFunction) → Option (List RawFunction)
