@@ -1,29 +1,24 @@
 -- What is read as a statement is spelled so, and is no deeper than its room: the statements that hold others.
-use Rattle.std.proofs.Common.{◌≡◌, ℕ, zero, suc, pos, ◌<◌, ◌≤◌, ◌+◌, max, Bool, true, false, if◌then◌else◌, List, [], ◌∷◌, ◌++◌, length, length-append, Option, Some, None, refl, sym, ap, subst, ◌∙◌, append_assoc, arith}
+use Rattle.std.proofs.Common.{◌≡◌, ℕ, zero, suc, ◌<◌, ◌≤◌, Bool, true, false, if◌then◌else◌, List, [], ◌∷◌, ◌++◌, length, length-append, Option, Some, None, refl, sym, ap, subst, ◌∙◌, append_assoc, arith}
 use Rattle.c_ast.specs.RawTree as tree
 use Rattle.c_ast.specs.RawTree.{RawExpression, RawCondition, RawDeclared, RawStatements}
 use Rattle.c_ast.specs.RawView.{raw_joined, raw_one, raw_optional, raw_branches}
-use Rattle.c_tokens.specs.declared.kind.Kind.{Kind}
 use Rattle.c_tokens.specs.declared.kind.Kind.TheVariants as k
 use Rattle.c_tokens.specs.declared.token.Token.{Token}
-use Rattle.c_reader.specs.declared.sign.Sign.{Sign}
 use Rattle.c_reader.specs.declared.sign.Sign.TheVariants as sign
-use Rattle.c_reader.specs.Expressions.{SpellsExpression, expression_depth}
 use Rattle.c_reader.specs.ReadExpressions.{◌>>=◌}
-use Rattle.c_reader.specs.Declarations.{Statement, SpellsDeclaration, SpellsOptional}
-use Rattle.c_reader.specs.Declarations as declared
-use Rattle.c_reader.specs.Statements as spelled
-use Rattle.c_reader.specs.Statements.{SpellsStatement, SpellsEntries, SpellsSimple, SpellsStart, SpellsCondition, updated, ends_open}
-use Rattle.c_reader.specs.Depth.{condition_depth, declarators_depth, statements_depth}
-use Rattle.c_reader.specs.Signs.{is_sign, behind_sign, begins}
+use Rattle.c_reader.specs.Declarations.{Statement, SpellsOptional}
+use Rattle.c_reader.specs.Statements.{SpellsStatement, SpellsEntries, SpellsSimple, SpellsStart, SpellsCondition, ends_open}
+use Rattle.c_reader.specs.Depth.{condition_depth, statements_depth}
+use Rattle.c_reader.specs.Signs.{behind_sign, begins}
 use Rattle.c_reader.specs.ReadDeclarations.{Reads, shallow_at, begins_type, declaration_at, optional, unless}
-use Rattle.c_reader.specs.ReadStatements.{simple_at, mark_at, condition_at, start_at, if_at, while_at, do_at, head_at, for_at, ended, entry_at, entries_by, entries_within, entries_at, statement_by, statement_at}
-use Rattle.c_reader.proofs.Reading.{stepped, behind_sign-found, begins-here, begins-none, SignFirst, HasSign, Front, IsSound, given, append_parts, cons_parts}
+use Rattle.c_reader.specs.ReadStatements.{simple_at, condition_at, start_at, if_at, while_at, do_at, head_at, for_at, ended, entry_at, entries_by, entries_within, entries_at}
+use Rattle.c_reader.proofs.Reading.{stepped, behind_sign-found, begins-here, begins-none, SignFirst, given, append_parts, cons_parts}
 use Rattle.c_reader.proofs.Shallow.{shallow-sound, ShallowAt}
 use Rattle.c_reader.proofs.Firsts.{FirstIs-some, starts_statement, statement-first}
 use Rattle.c_reader.proofs.Levels.{PutsInFront, declaration-level, statement-level}
 use Rattle.c_reader.proofs.DeclarationSoundness.{SpellsWithin, declaration_at-sound, unless-sound}
-use Rattle.c_reader.proofs.SimpleSoundness.{SpellsShallowCondition, simple_at-sound, mark_at-sound, condition_at-sound, start_at-sound}
+use Rattle.c_reader.proofs.SimpleSoundness.{SpellsShallowCondition, simple_at-sound, condition_at-sound, start_at-sound}
 
 -- The statement stands at the front, these tokens follow, and it is no deeper than this. Where it ends in an `if` without
 -- an `else`, none follows.

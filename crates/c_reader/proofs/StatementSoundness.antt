@@ -1,17 +1,13 @@
 -- What is read as a statement is spelled so, and is no deeper than its room: all statements.
-use Rattle.std.proofs.Common.{◌≡◌, ℕ, zero, suc, ◌<◌, ◌≤◌, ◌+◌, max, Bool, true, false, List, [], ◌∷◌, ◌++◌, length, Option, Some, None, refl, sym, ap, subst, ◌∙◌, arith}
+use Rattle.std.proofs.Common.{◌≡◌, ℕ, zero, suc, false, List, [], ◌∷◌, ◌++◌, Some, refl, subst, arith}
 use Rattle.c_ast.specs.RawTree as tree
 use Rattle.c_ast.specs.RawTree.{RawStatements}
-use Rattle.c_ast.specs.RawView.{raw_joined, raw_one}
 use Rattle.c_tokens.specs.declared.kind.Kind.{Kind}
 use Rattle.c_tokens.specs.declared.kind.Kind.TheVariants as k
 use Rattle.c_tokens.specs.declared.token.Token.{Token}
-use Rattle.c_reader.specs.declared.sign.Sign.TheVariants as sign
 use Rattle.c_reader.specs.ReadExpressions.{◌>>=◌}
 use Rattle.c_reader.specs.Declarations.{Statement}
 use Rattle.c_reader.specs.Statements.{SpellsStatement, SpellsSimple, ends_open}
-use Rattle.c_reader.specs.Depth.{statements_depth}
-use Rattle.c_reader.specs.Signs.{begins}
 use Rattle.c_reader.specs.ReadDeclarations.{Reads, shallow_at}
 use Rattle.c_reader.specs.ReadStatements.{simple_at, mark_at, ended, entries_at, block_at, statement_by, statement_at}
 use Rattle.c_reader.proofs.Reading.{stepped, given, append_parts, cons_parts}

@@ -1,18 +1,15 @@
 -- What is read as a file is spelled so, and is no deeper than its room.
-use Rattle.std.proofs.Common.{◌≡◌, ℕ, zero, suc, ◌<◌, ◌≤◌, ◌+◌, max, Bool, true, false, List, [], ◌∷◌, ◌++◌, length, length-append, Option, Some, None, refl, sym, ap, subst, ◌∙◌, append_assoc, inl, inr, ◌⊎◌, arith}
+use Rattle.std.proofs.Common.{◌≡◌, ℕ, zero, suc, ◌<◌, ◌≤◌, Bool, true, false, List, [], ◌∷◌, ◌++◌, length, length-append, Option, Some, None, refl, sym, ap, subst, ◌∙◌, arith}
 use Rattle.std.specs.Prelude.{option_to_list}
-use Rattle.c_ast.specs.declared.func.Var.{Var}
 use Rattle.c_ast.specs.RawTree.{RawFunction}
-use Rattle.c_ast.specs.RawView.{raw_joined}
 use Rattle.c_tokens.specs.declared.kind.Kind.TheVariants as k
 use Rattle.c_tokens.specs.declared.token.Token.{Token}
 use Rattle.c_reader.specs.declared.sign.Sign.TheVariants as sign
-use Rattle.c_reader.specs.ReadExpressions.{◌>>=◌}
-use Rattle.c_reader.specs.Declarations.{SpellsOptional, SpellsType, SpellsName}
+use Rattle.c_reader.specs.Declarations.{SpellsType, SpellsName}
 use Rattle.c_reader.specs.Units.{AreQualifiers, SpellsFunction, SpellsMarkDeclaration, SpellsUnit}
 use Rattle.c_reader.specs.Depth.{statements_depth, unit_depth}
 use Rattle.c_reader.specs.Signs.{is_sign, behind_sign, begins}
-use Rattle.c_reader.specs.ReadDeclarations.{Reads, unless, name_at, behind_type, parameters_at}
+use Rattle.c_reader.specs.ReadDeclarations.{unless, name_at, behind_type, parameters_at}
 use Rattle.c_reader.specs.ReadStatements.{entries_at, statement_at}
 use Rattle.c_reader.specs.ReadUnits.{unqualified, mark_declaration_at, function_at, item_by, item_at, items_within, unit_at}
 use Rattle.c_reader.proofs.Reading.{stepped, behind_sign-found, HasSign-from_test, given, append_parts, cons_parts}
