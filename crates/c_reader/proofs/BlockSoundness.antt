@@ -49,7 +49,7 @@ while_at-sound room inside word tokens read sound is found =
     let cond_first = condition_at-sound room head.0 cond.0 cond.1 in
     let closing = behind_sign-found sign.CloseRound cond.0.1 last.0 last.1 in
     let body_first = sound last.0 body.0 body.1 in
-    subst (λ r. StatementFirst (suc room) (word ∷ tokens) r.0 r.1) (given body.2) (record {
+    subst (λ r. StatementFirst (suc room) (word ∷ tokens) r.0 r.1) {x = (tree.While cond.0.0 (raw_one body.0.0), body.0.1)} (given body.2) (record {
       front = word ∷ opening.token ∷ (cond_first.front ++ closing.token ∷ body_first.front);
       parts = cons_parts word (opening.token ∷ (cond_first.front ++ closing.token ∷ body_first.front)) body.0.1 (word ∷ tokens) tokens refl
           (cons_parts opening.token (cond_first.front ++ closing.token ∷ body_first.front) body.0.1 tokens head.0 opening.parts
@@ -87,7 +87,7 @@ do_at-sound room inside word tokens read sound is found =
     let closing = behind_sign-found sign.CloseRound cond.0.1 last.0 last.1 in
     let semicolon = behind_sign-found sign.Semicolon last.0 after.0 after.1 in
     let tail : List Token = closing.token ∷ semicolon.token ∷ [] in
-    subst (λ r. StatementFirst (suc room) (word ∷ tokens) r.0 r.1) (given after.2) (record {
+    subst (λ r. StatementFirst (suc room) (word ∷ tokens) r.0 r.1) {x = (tree.Do (raw_one body.0.0) cond.0.0, after.0)} (given after.2) (record {
       front = word ∷ (body_first.front ++ while_word.token ∷ opening.token ∷ (cond_first.front ++ tail));
       parts = cons_parts word (body_first.front ++ while_word.token ∷ opening.token ∷ (cond_first.front ++ tail)) after.0 (word ∷ tokens) tokens refl
           (append_parts body_first.front (while_word.token ∷ opening.token ∷ (cond_first.front ++ tail)) after.0 tokens body.0.1 body_first.parts
@@ -219,7 +219,7 @@ head_at-sound room tokens read found =
     let second = behind_sign-found sign.Semicolon cond.0.1 last.0 last.1 in
     let step_first = unless-sound (SpellsWithin SpellsSimple room) sign.CloseRound (simple_at room) (simple_at-sound room) last.0 step.0 step.1 in
     let closing = behind_sign-found sign.CloseRound step.0.1 body.0 body.1 in
-    subst (λ r. HeadFirst room tokens r.0.0 r.0.1 r.0.2 r.1) (given body.2) (record {
+    subst (λ r. HeadFirst room tokens r.0.0 r.0.1 r.0.2 r.1) {x = ((start.0.0, cond.0.0, step.0.0), body.0)} (given body.2) (record {
       opening = opening.token;
       first = first.token;
       second = second.token;
@@ -254,7 +254,7 @@ for_at-sound room inside word tokens read sound is found =
     let head_first = head_at-sound room tokens head.0 head.1 in
     let body_first = sound head.0.1 body.0 body.1 in
     let whole : List Token = head_first.opening ∷ (head_first.us ++ head_first.first ∷ (head_first.vs ++ head_first.second ∷ (head_first.ws ++ head_first.closing ∷ body_first.front))) in
-    subst (λ r. StatementFirst (suc room) (word ∷ tokens) r.0 r.1) (given body.2) (record {
+    subst (λ r. StatementFirst (suc room) (word ∷ tokens) r.0 r.1) {x = (tree.For (raw_optional head.0.0.0) head.0.0.1 (raw_optional head.0.0.2) (raw_one body.0.0), body.0.1)} (given body.2) (record {
       front = word ∷ whole;
       parts = cons_parts word whole body.0.1 (word ∷ tokens) tokens refl (head_first.parts body_first.front body.0.1 body_first.parts);
       spells = SpellsStatement.for head.0.0.0 head.0.0.1 head.0.0.2 body.0.0 word head_first.opening head_first.first head_first.second head_first.closing

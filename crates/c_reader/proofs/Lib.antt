@@ -23,3 +23,4 @@ pub mod UnitSoundness
 pub mod UnitCompleteness
 pub mod UnitLoop
 pub mod ShortStatements
+pub mod UnitSamples

@@ -100,7 +100,7 @@ assigned-sound room name word first others true read named is found =
       parts = ap (λ (l : List Token). word ∷ first ∷ l) value.at.parts;
       spells = (
         spelled.SpellsSimple.assignment name x.0.0 word first value.at.front named (HasSign-from_test sign.Assign first.kind is)
-          value.at.spells,
+            value.at.spells,
         omega (arith, value.within),
       );
     })

@@ -120,13 +120,19 @@ head-complete room start cond each opening first second closing us vs ws after o
     (λ s xs spells. (start-first s xs (first ∷ middle) spells.0, start-complete s xs first middle room spells.0 ends_first spells.1)))
     (step _ middle (behind_sign-here sign.Semicolon first middle ends_first)
     (step _ (cond, second ∷ last) (unless-complete (SpellsShallowCondition room) (condition_at room) sign.Semicolon cond vs second last spells_cond ends_second
-    (λ x xs spells. (condition-no_semicolon x xs (second ∷ last) spells.0, condition-complete room x xs (second ∷ last) spells.0 spells.1
-    (ends-at k.Semicolon second last ends_second refl (λ asks. cc)))))
+    (λ x xs spells. (
+      condition-no_semicolon x xs (second ∷ last) spells.0,
+      condition-complete room x xs (second ∷ last) spells.0 spells.1
+          (ends-at k.Semicolon second last ends_second refl (λ asks. cc)),
+    )))
     (step _ last (behind_sign-here sign.Semicolon second last ends_second)
     (step _ (each, closing ∷ after) (unless-complete (SpellsWithin SpellsSimple room) (simple_at room) sign.CloseRound each ws closing after spells_each closes
-    (λ s xs spells. (begins-not starts_simple sign.CloseRound (xs ++ closing ∷ after) simple-no_bracket
-    (FirstIs-append starts_simple xs (closing ∷ after) (simple-first s xs spells.0)), simple-complete s xs (closing ∷ after) room spells.0 spells.1
-    (ends-at k.CloseRound closing after closes refl (λ asks. cc)))))
+    (λ s xs spells. (
+      begins-not starts_simple sign.CloseRound (xs ++ closing ∷ after) simple-no_bracket
+          (FirstIs-append starts_simple xs (closing ∷ after) (simple-first s xs spells.0)),
+      simple-complete s xs (closing ∷ after) room spells.0 spells.1
+          (ends-at k.CloseRound closing after closes refl (λ asks. cc)),
+    )))
     (step _ after (behind_sign-here sign.CloseRound closing after closes) refl))))))
 
 -- ---- statements by their first words

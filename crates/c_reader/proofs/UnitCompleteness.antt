@@ -82,8 +82,7 @@ name-or-bracket : (var : Option Var) (us : List Token) (closing : Token) (after 
 name-or-bracket _ _ closing after SpellsOptional.nothing is =
     (kind-not sign.Int closing k.CloseRound is refl, kind-not sign.Long closing k.CloseRound is refl)
 name-or-bracket _ _ closing after (SpellsOptional.something var us spells) is =
-    let named : FirstIs starts_name (us ++ closing ∷ after) = FirstIs-append starts_name us (closing ∷ after) (name-first var us spells) in
-    (
+    let named : FirstIs starts_name (us ++ closing ∷ after) = FirstIs-append starts_name us (closing ∷ after) (name-first var us spells) in (
       begins-not starts_name sign.Int (us ++ closing ∷ after) name-no_int named,
       begins-not starts_name sign.Long (us ++ closing ∷ after) name-no_long named,
     )
@@ -112,8 +111,11 @@ mark-declaration-complete room _ after
     (step _ head (behind_sign-here sign.OpenRound opening head opens)
     (step _ (ws ++ last) (type-complete vs (ws ++ last) inner either.0 either.1)
     (step _ (var, last) (unless-complete SpellsName name_at sign.CloseRound var ws closing (semicolon ∷ after) spells closes
-    (λ y zs name. (begins-not starts_name sign.CloseRound (zs ++ last) name-no_bracket
-    (FirstIs-append starts_name zs last (name-first y zs name)), name-complete y zs last name)))
+    (λ y zs name. (
+      begins-not starts_name sign.CloseRound (zs ++ last) name-no_bracket
+          (FirstIs-append starts_name zs last (name-first y zs name)),
+      name-complete y zs last name,
+    )))
     (step _ (semicolon ∷ after) (behind_sign-here sign.CloseRound closing (semicolon ∷ after) closes)
     (behind_sign-here sign.Semicolon semicolon after ends))))) refl)
 

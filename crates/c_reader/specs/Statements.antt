@@ -93,7 +93,7 @@ mutual
         → SpellsExpression cond inside → SpellsStatement first body → ends_open (raw_one first) ≡ false
         → SpellsStatement second behind
         → SpellsStatement (tree.IfElse cond (raw_one first) (raw_one second))
-          (word ∷ opening ∷ (inside ++ closing ∷ (body ++ other ∷ behind)))
+        (word ∷ opening ∷ (inside ++ closing ∷ (body ++ other ∷ behind)))
     while : (cond : RawCondition) (body : Statement) (word opening closing : Token) (inside behind : List Token)
         → word.kind ≡ k.While → opening.kind ≡ k.OpenRound → closing.kind ≡ k.CloseRound
         → SpellsCondition cond inside → SpellsStatement body behind
@@ -103,7 +103,7 @@ mutual
         → first.kind ≡ k.Do → word.kind ≡ k.While → opening.kind ≡ k.OpenRound → closing.kind ≡ k.CloseRound
         → semicolon.kind ≡ k.Semicolon → SpellsStatement body before → SpellsCondition cond inside
         → SpellsStatement (tree.Do (raw_one body) cond)
-          (first ∷ (before ++ word ∷ opening ∷ (inside ++ closing ∷ semicolon ∷ [])))
+        (first ∷ (before ++ word ∷ opening ∷ (inside ++ closing ∷ semicolon ∷ [])))
     for : (start : Option Statement) (cond : Option RawCondition) (step : Option Statement) (body : Statement)
         (word opening first second closing : Token) (before between behind rest_of : List Token)
         → word.kind ≡ k.For → opening.kind ≡ k.OpenRound → first.kind ≡ k.Semicolon → second.kind ≡ k.Semicolon
@@ -111,7 +111,7 @@ mutual
         → SpellsOptional SpellsCondition cond between → SpellsOptional SpellsSimple step behind
         → SpellsStatement body rest_of
         → SpellsStatement (tree.For (raw_optional start) cond (raw_optional step) (raw_one body))
-          (word ∷ opening ∷ (before ++ first ∷ (between ++ second ∷ (behind ++ closing ∷ rest_of))))
+        (word ∷ opening ∷ (before ++ first ∷ (between ++ second ∷ (behind ++ closing ∷ rest_of))))
     break : (word semicolon : Token) → word.kind ≡ k.Break → semicolon.kind ≡ k.Semicolon
         → SpellsStatement (tree.Break word.line) (word ∷ semicolon ∷ [])
     continue : (word semicolon : Token) → word.kind ≡ k.Continue → semicolon.kind ≡ k.Semicolon

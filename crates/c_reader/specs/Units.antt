@@ -21,8 +21,8 @@ pub data SpellsFunction : RawFunction → List Token → Type 0 where
       → closing_curly.kind ≡ k.CloseCurly → AreQualifiers qualifiers → SpellsType type → SpellsName var name
       → SpellsParameters params parameters → SpellsEntries entries inside
       → SpellsFunction (record { name = var.name; line = var.line; params = params; body = raw_joined entries })
-        (qualifiers ++ (type
-        ++ (name ++ opening ∷ (parameters ++ closing ∷ opening_curly ∷ (inside ++ closing_curly ∷ [])))))
+      (qualifiers ++ (type
+      ++ (name ++ opening ∷ (parameters ++ closing ∷ opening_curly ∷ (inside ++ closing_curly ∷ [])))))
 
 -- The tokens spell a declaration of `__mark`, whose parameter may have a name (6.7.6.3).
 pub data SpellsMarkDeclaration : List Token → Type 0 where
@@ -32,7 +32,7 @@ pub data SpellsMarkDeclaration : List Token → Type 0 where
       → semicolon.kind ≡ k.Semicolon → AreQualifiers qualifiers → SpellsType type → SpellsType parameter_type
       → SpellsOptional SpellsName var name
       → SpellsMarkDeclaration
-        (qualifiers ++ (type ++ word ∷ opening ∷ (parameter_type ++ (name ++ closing ∷ semicolon ∷ []))))
+      (qualifiers ++ (type ++ word ∷ opening ∷ (parameter_type ++ (name ++ closing ∷ semicolon ∷ []))))
 
 -- The tokens spell the functions of a file, in its order. A declaration of `__mark` leaves nothing in the tree.
 pub data SpellsUnit : List Token → List RawFunction → Type 0 where

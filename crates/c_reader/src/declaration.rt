@@ -168,10 +168,7 @@ fn read_listed(alloc: Global, tokens: &[Token]) -> Result<(Items<Var>, &[Token])
 ///
 /// params: nothing, or "void", or parameters
 #[tactic(auto, unfolding(crate::specs::ReadDeclarations::parameters_at))]
-pub fn read_parameters(
-    alloc: Global,
-    tokens: &[Token],
-) -> Result<(Items<Var>, &[Token]), ReadFault>
+pub fn read_parameters(alloc: Global, tokens: &[Token]) -> Result<(Items<Var>, &[Token]), ReadFault>
     ensures { Gives (λ x. (x.0, x.1.now)) result (parameters_at tokens.now) }
 {
     if let Some(others) = behind_sign(Sign::CloseRound, skipped(Sign::Void, tokens)) {

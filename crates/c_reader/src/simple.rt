@@ -141,13 +141,15 @@ fn constant_at(tokens: &[Token]) -> Result<(u64, &[Token]), ReadFault>
     ensures { Gives (λ x. (x.0, x.1.now)) result (constant_at tokens.now) }
 {
     match tokens.split_first() {
-        Some((
-            Token {
-                kind: Kind::Constant(value),
-                ..
-            },
-            others,
-        )) => Ok((*value, others)),
+        Some(
+            (
+                Token {
+                    kind: Kind::Constant(value),
+                    ..
+                },
+                others,
+            ),
+        ) => Ok((*value, others)),
         _ => Err(ReadFault::Grammar),
     }
 }

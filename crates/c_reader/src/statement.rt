@@ -122,8 +122,14 @@ fn read_head<'a>(
     room: u32,
     tokens: &'a [Token],
 ) -> Result<(Head, &'a [Token]), ReadFault>
-    ensures { Gives (λ x. ((option_map raw_put_in_front x.0.start, option_map raw_condition_of x.0.cond,
-        option_map raw_put_in_front x.0.step), x.1.now)) result (head_at room tokens.now) }
+    ensures { Gives (λ x. (
+      (
+        option_map raw_put_in_front x.0.start,
+        option_map raw_condition_of x.0.cond,
+        option_map raw_put_in_front x.0.step,
+      ),
+      x.1.now,
+    )) result (head_at room tokens.now) }
 {
     let head = expect(Sign::OpenRound, tokens)?;
     let (start, others) = read_init(alloc, room, head)?;

@@ -18,7 +18,12 @@ fn show_condition(cond: &RawCond, out: &mut String) -> Result<(), AllocError> {
 fn show_declarators(declarators: &[RawDeclarator], out: &mut String) -> Result<(), AllocError> {
     for (i, declarator) in declarators.iter().enumerate() {
         out.push_str(if i == 0 { "var " } else { ", " })?;
-        write!(out, "{}@{}", declarator.var.name.text(), declarator.var.line)?;
+        write!(
+            out,
+            "{}@{}",
+            declarator.var.name.text(),
+            declarator.var.line
+        )?;
         if let Some(value) = &declarator.initialiser {
             out.push_str(" = ")?;
             show(value, out)?;
@@ -149,7 +154,10 @@ fn files_are_read_as_in_c(rt: HostRuntime) -> Result<(), Fail> {
             "long f(long int a, long long b, long long int c) {}",
             "f@1(a@1, b@1, c@1) {}",
         ),
-        ("long int f() { long long x; long int y; }", "f@1() {var x@1; var y@1;}"),
+        (
+            "long int f() { long long x; long int y; }",
+            "f@1() {var x@1; var y@1;}",
+        ),
         // Declarations.
         ("int f() { int x; }", "f@1() {var x@1;}"),
         (
@@ -158,21 +166,48 @@ fn files_are_read_as_in_c(rt: HostRuntime) -> Result<(), Fail> {
         ),
         // Assignments.
         ("int f() { x = y; }", "f@1() {x@1 = y;}"),
-        ("int f() {\nx += y * 2; }", "f@1() {x@2 = (x@2 +@2 (y@2 *@2 2));}"),
+        (
+            "int f() {\nx += y * 2; }",
+            "f@1() {x@2 = (x@2 +@2 (y@2 *@2 2));}",
+        ),
         ("int f() { x -= y - z; }", "f@1() {x@1 = (x - (y - z));}"),
         ("int f() { x *= y + z; }", "f@1() {x@1 = (x * (y + z));}"),
-        ("int f() { x\n++; x--; }", "f@1() {x@1 = (x +@2 1); x@2 = (x@2 -@2 1);}"),
-        ("int f() { ++\nx; --x; }", "f@1() {x@2 = (x@2 + 1); x@2 = (x@2 -@2 1);}"),
-        ("int f() { x -= y ? 1 : 2; }", "f@1() {x@1 = (x - (y ? 1 : 2));}"),
+        (
+            "int f() { x\n++; x--; }",
+            "f@1() {x@1 = (x +@2 1); x@2 = (x@2 -@2 1);}",
+        ),
+        (
+            "int f() { ++\nx; --x; }",
+            "f@1() {x@2 = (x@2 + 1); x@2 = (x@2 -@2 1);}",
+        ),
+        (
+            "int f() { x -= y ? 1 : 2; }",
+            "f@1() {x@1 = (x - (y ? 1 : 2));}",
+        ),
         // Statements.
         ("int f() { ; {} {;} }", "f@1() {-; {}; {-;};}"),
-        ("int f() { return a; return (a); }", "f@1() {return a; return a;}"),
-        ("int f() { break; continue; }", "f@1() {break@1; continue@1;}"),
+        (
+            "int f() { return a; return (a); }",
+            "f@1() {return a; return a;}",
+        ),
+        (
+            "int f() { break; continue; }",
+            "f@1() {break@1; continue@1;}",
+        ),
         ("int f() { __mark(7); }", "f@1() {#7;}"),
         ("int f() { if (a) b = 1; }", "f@1() {if a [b@1 = 1];}"),
-        ("int f() { if (a) ; else { } }", "f@1() {if a [-] else [{}];}"),
-        ("int f() { while (a < b) a++; }", "f@1() {while (a < b) [a@1 = (a + 1)];}"),
-        ("int f() { do a--; while (a); }", "f@1() {do [a@1 = (a - 1)] while a;}"),
+        (
+            "int f() { if (a) ; else { } }",
+            "f@1() {if a [-] else [{}];}",
+        ),
+        (
+            "int f() { while (a < b) a++; }",
+            "f@1() {while (a < b) [a@1 = (a + 1)];}",
+        ),
+        (
+            "int f() { do a--; while (a); }",
+            "f@1() {do [a@1 = (a - 1)] while a;}",
+        ),
         (
             "int f() { for (i = 0; i < n; i++) s += i; }",
             "f@1() {for (i@1 = 0 | (i < n) | i@1 = (i + 1)) [s@1 = (s + i)];}",
@@ -183,7 +218,10 @@ fn files_are_read_as_in_c(rt: HostRuntime) -> Result<(), Fail> {
             "f@1() {for (var i@1 = 0, j@1 |  | j@1 = (j - 1)) [-];}",
         ),
         // Marks in conditions: the whole rest is the condition.
-        ("int f() { while (__mark(1) & a) ; }", "f@1() {while #1 a [-];}"),
+        (
+            "int f() { while (__mark(1) & a) ; }",
+            "f@1() {while #1 a [-];}",
+        ),
         (
             "int f() { do ; while (__mark(2) && a || b); }",
             "f@1() {do [-] while #2 (a || b);}",
@@ -193,7 +231,10 @@ fn files_are_read_as_in_c(rt: HostRuntime) -> Result<(), Fail> {
             "f@1() {for ( | #3 (i <= n) | ) [-];}",
         ),
         // An `else` belongs to the nearest `if` that has none.
-        ("int f() { if (a) if (b) ; else ; }", "f@1() {if a [if b [-] else [-]];}"),
+        (
+            "int f() { if (a) if (b) ; else ; }",
+            "f@1() {if a [if b [-] else [-]];}",
+        ),
         (
             "int f() { if (a) if (b) ; else ; else ; }",
             "f@1() {if a [if b [-] else [-]] else [-];}",
@@ -202,7 +243,10 @@ fn files_are_read_as_in_c(rt: HostRuntime) -> Result<(), Fail> {
             "int f() { if (a) while (b) if (c) ; else ; }",
             "f@1() {if a [while b [if c [-] else [-]]];}",
         ),
-        ("int f() { if (a) { if (b) ; } else ; }", "f@1() {if a [{if b [-];}] else [-];}"),
+        (
+            "int f() { if (a) { if (b) ; } else ; }",
+            "f@1() {if a [{if b [-];}] else [-];}",
+        ),
         (
             "int f() { if (a) do if (b) ; while (c); else ; }",
             "f@1() {if a [do [if b [-]] while c] else [-];}",
@@ -357,24 +401,97 @@ fn depth_of_files_is_limited(rt: HostRuntime) -> Result<(), Fail> {
         (body, ("if(a) ", ""), "a = a;", 397, "read", "Grammar"),
         (body, ("if(a) ", ""), "a += a;", 396, "read", "Grammar"),
         (body, ("if(a) ", ""), "a++;", 396, "read", "Grammar"),
-        (body, ("if(a) ", ""), "while (__mark(1) & a) ;", 397, "read", "Grammar"),
-        (body, ("if(a) ", ""), "for (int i; ; ) ;", 397, "read", "Grammar"),
-        (body, ("if(a) ", ""), "for (int i = a; ; ) ;", 396, "read", "Grammar"),
-        (body, ("if(a) ", ""), "for (; ; a++) ;", 395, "read", "Grammar"),
+        (
+            body,
+            ("if(a) ", ""),
+            "while (__mark(1) & a) ;",
+            397,
+            "read",
+            "Grammar",
+        ),
+        (
+            body,
+            ("if(a) ", ""),
+            "for (int i; ; ) ;",
+            397,
+            "read",
+            "Grammar",
+        ),
+        (
+            body,
+            ("if(a) ", ""),
+            "for (int i = a; ; ) ;",
+            396,
+            "read",
+            "Grammar",
+        ),
+        (
+            body,
+            ("if(a) ", ""),
+            "for (; ; a++) ;",
+            395,
+            "read",
+            "Grammar",
+        ),
         // Expressions in statements.
         (value, ("- ", ""), "a", 397, "read", "Grammar"),
-        (("int f(int a){a = ", ";}"), ("- ", ""), "a", 397, "read", "Grammar"),
-        (("int f(int a){a -= ", ";}"), ("- ", ""), "a", 396, "read", "Grammar"),
-        (("int f(int a){int b = ", ";}"), ("- ", ""), "a", 397, "read", "Grammar"),
-        (("int f(int a){if (", ") ;}"), ("- ", ""), "a", 397, "read", "Grammar"),
-        (("int f(int a){for (a = ", "; ;) ;}"), ("- ", ""), "a", 396, "read", "Grammar"),
+        (
+            ("int f(int a){a = ", ";}"),
+            ("- ", ""),
+            "a",
+            397,
+            "read",
+            "Grammar",
+        ),
+        (
+            ("int f(int a){a -= ", ";}"),
+            ("- ", ""),
+            "a",
+            396,
+            "read",
+            "Grammar",
+        ),
+        (
+            ("int f(int a){int b = ", ";}"),
+            ("- ", ""),
+            "a",
+            397,
+            "read",
+            "Grammar",
+        ),
+        (
+            ("int f(int a){if (", ") ;}"),
+            ("- ", ""),
+            "a",
+            397,
+            "read",
+            "Grammar",
+        ),
+        (
+            ("int f(int a){for (a = ", "; ;) ;}"),
+            ("- ", ""),
+            "a",
+            396,
+            "read",
+            "Grammar",
+        ),
         // Lists do not nest.
         (body, (";", ""), "", 5000, "read", "read"),
         (("", ""), ("int f(){} ", ""), "", 5000, "read", "read"),
     ];
     for (ends, parts, middle, times, here, past) in rows {
-        assert_eq!(rt; answer(alloc, ends, parts, times, middle)?, here, "{} {middle}", parts.0);
-        assert_eq!(rt; answer(alloc, ends, parts, times + 1, middle)?, past, "{} {middle}", parts.0);
+        assert_eq!(rt;
+            answer(alloc, ends, parts, times, middle)?,
+            here,
+            "{} {middle}",
+            parts.0
+        );
+        assert_eq!(rt;
+            answer(alloc, ends, parts, times + 1, middle)?,
+            past,
+            "{} {middle}",
+            parts.0
+        );
     }
     Ok(())
 }
