@@ -49,13 +49,20 @@ while_at-sound room inside word tokens read sound is found =
     let cond_first = condition_at-sound room head.0 cond.0 cond.1 in
     let closing = behind_sign-found sign.CloseRound cond.0.1 last.0 last.1 in
     let body_first = sound last.0 body.0 body.1 in
-    subst (λ r. StatementFirst (suc room) (word ∷ tokens) r.0 r.1) {x = (tree.While cond.0.0 (raw_one body.0.0), body.0.1)} (given body.2) (record {
+    subst (λ r. StatementFirst (suc room) (word ∷ tokens) r.0 r.1) {x = (
+      tree.While cond.0.0
+          (raw_one body.0.0),
+      body.0.1,
+    )} (given body.2) (record {
       front = word ∷ opening.token ∷ (cond_first.front ++ closing.token ∷ body_first.front);
-      parts = cons_parts word (opening.token ∷ (cond_first.front ++ closing.token ∷ body_first.front)) body.0.1 (word ∷ tokens) tokens refl
-          (cons_parts opening.token (cond_first.front ++ closing.token ∷ body_first.front) body.0.1 tokens head.0 opening.parts
+      parts = cons_parts word (opening.token ∷ (cond_first.front ++ closing.token ∷ body_first.front)) body.0.1
+          (word ∷ tokens) tokens refl
+          (cons_parts opening.token (cond_first.front ++ closing.token ∷ body_first.front) body.0.1 tokens head.0
+          opening.parts
           (append_parts cond_first.front (closing.token ∷ body_first.front) body.0.1 head.0 cond.0.1 cond_first.parts
           (cons_parts closing.token body_first.front body.0.1 cond.0.1 last.0 closing.parts body_first.parts)));
-      spells = SpellsStatement.while cond.0.0 body.0.0 word opening.token closing.token cond_first.front body_first.front is opening.has
+      spells = SpellsStatement.while cond.0.0 body.0.0 word opening.token closing.token cond_first.front
+          body_first.front is opening.has
           closing.has cond_first.spells.0 body_first.spells;
       within = omega (arith, cond_first.spells.1, body_first.within);
       closed = body_first.closed;
@@ -66,8 +73,10 @@ pub ended-found : {X : Type 0} (x : X) (tokens : List Token) (read : X × List T
     → SignFirst sign.Semicolon tokens read.1 × (x ≡ read.0)
 ended-found x tokens read found =
     let after = stepped (behind_sign sign.Semicolon tokens) _ read found in
-    let same = given after.2 in
-    (subst (λ r. SignFirst sign.Semicolon tokens r.1) same (behind_sign-found sign.Semicolon tokens after.0 after.1), ap (λ r. r.0) same)
+    let same = given after.2 in (
+      subst (λ r. SignFirst sign.Semicolon tokens r.1) same (behind_sign-found sign.Semicolon tokens after.0 after.1),
+      ap (λ r. r.0) same,
+    )
 
 pub do_at-sound : (room : ℕ) (inside : List Token → Reads Statement) (word : Token) (tokens : List Token)
     (read : Statement × List Token) → AreStatements room inside → word.kind ≡ k.Do
@@ -87,16 +96,24 @@ do_at-sound room inside word tokens read sound is found =
     let closing = behind_sign-found sign.CloseRound cond.0.1 last.0 last.1 in
     let semicolon = behind_sign-found sign.Semicolon last.0 after.0 after.1 in
     let tail : List Token = closing.token ∷ semicolon.token ∷ [] in
-    subst (λ r. StatementFirst (suc room) (word ∷ tokens) r.0 r.1) {x = (tree.Do (raw_one body.0.0) cond.0.0, after.0)} (given after.2) (record {
+    subst (λ r. StatementFirst (suc room) (word ∷ tokens) r.0 r.1) {x = (
+      tree.Do
+          (raw_one body.0.0) cond.0.0,
+      after.0,
+    )} (given after.2) (record {
       front = word ∷ (body_first.front ++ while_word.token ∷ opening.token ∷ (cond_first.front ++ tail));
-      parts = cons_parts word (body_first.front ++ while_word.token ∷ opening.token ∷ (cond_first.front ++ tail)) after.0 (word ∷ tokens) tokens refl
-          (append_parts body_first.front (while_word.token ∷ opening.token ∷ (cond_first.front ++ tail)) after.0 tokens body.0.1 body_first.parts
-          (cons_parts while_word.token (opening.token ∷ (cond_first.front ++ tail)) after.0 body.0.1 behind_word.0 while_word.parts
+      parts = cons_parts word (body_first.front ++ while_word.token ∷ opening.token ∷
+          (cond_first.front ++ tail)) after.0 (word ∷ tokens) tokens refl
+          (append_parts body_first.front (while_word.token ∷ opening.token ∷
+          (cond_first.front ++ tail)) after.0 tokens body.0.1 body_first.parts
+          (cons_parts while_word.token (opening.token ∷ (cond_first.front ++ tail)) after.0 body.0.1 behind_word.0
+          while_word.parts
           (cons_parts opening.token (cond_first.front ++ tail) after.0 behind_word.0 head.0 opening.parts
           (append_parts cond_first.front tail after.0 head.0 cond.0.1 cond_first.parts
           (cons_parts closing.token (semicolon.token ∷ []) after.0 cond.0.1 last.0 closing.parts semicolon.parts)))));
       spells = SpellsStatement.do_while body.0.0 cond.0.0 word while_word.token opening.token closing.token semicolon.token
-          body_first.front cond_first.front is while_word.has opening.has closing.has semicolon.has body_first.spells cond_first.spells.0;
+          body_first.front cond_first.front is while_word.has opening.has closing.has semicolon.has body_first.spells
+          cond_first.spells.0;
       within = omega (arith, body_first.within, cond_first.spells.1);
       closed = λ is_open. absurd cc;
     })
@@ -116,10 +133,12 @@ branches-by : (room : ℕ) (inside : List Token → Reads Statement) (word : Tok
     → SignFirst sign.CloseRound middle last → StatementFirst room last s rest → behind_sign sign.Else rest ≡ behind
     → (optional behind rest inside >>= λ second. Some (raw_branches cond (raw_one s) second.0, second.1)) ≡ Some read
     → StatementFirst (suc room) (word ∷ tokens) read.0 read.1
-branches-by room inside word tokens head middle last rest cond s None read sound is opening cond_first closing first other found =
+branches-by room inside word tokens head middle last rest cond s None read sound is opening cond_first closing first
+    other found =
     subst (λ r. StatementFirst (suc room) (word ∷ tokens) r.0 r.1) (given found) (record {
       front = word ∷ opening.token ∷ (cond_first.at.front ++ closing.token ∷ first.front);
-      parts = cons_parts word (opening.token ∷ (cond_first.at.front ++ closing.token ∷ first.front)) rest (word ∷ tokens) tokens refl
+      parts = cons_parts word (opening.token ∷ (cond_first.at.front ++ closing.token ∷ first.front)) rest
+          (word ∷ tokens) tokens refl
           (cons_parts opening.token (cond_first.at.front ++ closing.token ∷ first.front) rest tokens head opening.parts
           (append_parts cond_first.at.front (closing.token ∷ first.front) rest head middle cond_first.at.parts
           (cons_parts closing.token first.front rest middle last closing.parts first.parts)));
@@ -128,7 +147,8 @@ branches-by room inside word tokens head middle last rest cond s None read sound
       within = omega (arith, cond_first.within, first.within);
       closed = λ is_open. begins-none sign.Else rest other;
     })
-branches-by room inside word tokens head middle last rest cond s (Some others) read sound is opening cond_first closing first other found =
+branches-by room inside word tokens head middle last rest cond s (Some others) read sound is opening cond_first
+    closing first other found =
     let outer = stepped (optional (Some others) rest inside) _ read found in
     let second = stepped (inside others) _ outer.0 outer.1 in
     let same : (tree.IfElse cond (raw_one s) (raw_one second.0.0), second.0.1) ≡ read =
@@ -138,7 +158,8 @@ branches-by room inside word tokens head middle last rest cond s (Some others) r
     let back : List Token = first.front ++ else_word.token ∷ second_first.front in
     subst (λ r. StatementFirst (suc room) (word ∷ tokens) r.0 r.1) same (record {
       front = word ∷ opening.token ∷ (cond_first.at.front ++ closing.token ∷ back);
-      parts = cons_parts word (opening.token ∷ (cond_first.at.front ++ closing.token ∷ back)) second.0.1 (word ∷ tokens) tokens refl
+      parts = cons_parts word (opening.token ∷ (cond_first.at.front ++ closing.token ∷ back)) second.0.1
+          (word ∷ tokens) tokens refl
           (cons_parts opening.token (cond_first.at.front ++ closing.token ∷ back) second.0.1 tokens head opening.parts
           (append_parts cond_first.at.front (closing.token ∷ back) second.0.1 head middle cond_first.at.parts
           (cons_parts closing.token back second.0.1 middle last closing.parts
@@ -213,13 +234,17 @@ head_at-sound room tokens read found =
     let step = stepped (unless (begins sign.CloseRound last.0) last.0 (simple_at room)) _ read last.2 in
     let body = stepped (behind_sign sign.CloseRound step.0.1) _ read step.2 in
     let opening = behind_sign-found sign.OpenRound tokens head.0 head.1 in
-    let start_first = unless-sound (SpellsWithin SpellsStart room) sign.Semicolon (start_at room) (start_at-sound room) head.0 start.0 start.1 in
+    let start_first = unless-sound (SpellsWithin SpellsStart room) sign.Semicolon (start_at room)
+    (start_at-sound room) head.0 start.0 start.1 in
     let first = behind_sign-found sign.Semicolon start.0.1 middle.0 middle.1 in
-    let cond_first = unless-sound (SpellsShallowCondition room) sign.Semicolon (condition_at room) (condition_at-sound room) middle.0 cond.0 cond.1 in
+    let cond_first = unless-sound (SpellsShallowCondition room) sign.Semicolon (condition_at room)
+    (condition_at-sound room) middle.0 cond.0 cond.1 in
     let second = behind_sign-found sign.Semicolon cond.0.1 last.0 last.1 in
-    let step_first = unless-sound (SpellsWithin SpellsSimple room) sign.CloseRound (simple_at room) (simple_at-sound room) last.0 step.0 step.1 in
+    let step_first = unless-sound (SpellsWithin SpellsSimple room) sign.CloseRound (simple_at room)
+    (simple_at-sound room) last.0 step.0 step.1 in
     let closing = behind_sign-found sign.CloseRound step.0.1 body.0 body.1 in
-    subst (λ r. HeadFirst room tokens r.0.0 r.0.1 r.0.2 r.1) {x = ((start.0.0, cond.0.0, step.0.0), body.0)} (given body.2) (record {
+    subst (λ r. HeadFirst room tokens r.0.0 r.0.1 r.0.2 r.1) {x = ((start.0.0, cond.0.0, step.0.0), body.0)}
+    (given body.2) (record {
       opening = opening.token;
       first = first.token;
       second = second.token;
@@ -228,10 +253,14 @@ head_at-sound room tokens read found =
       vs = cond_first.front;
       ws = step_first.front;
       parts = λ xs behind is.
-          cons_parts opening.token (start_first.front ++ first.token ∷ (cond_first.front ++ second.token ∷ (step_first.front ++ closing.token ∷ xs))) behind tokens head.0 opening.parts
-          (append_parts start_first.front (first.token ∷ (cond_first.front ++ second.token ∷ (step_first.front ++ closing.token ∷ xs))) behind head.0 start.0.1 start_first.parts
-          (cons_parts first.token (cond_first.front ++ second.token ∷ (step_first.front ++ closing.token ∷ xs)) behind start.0.1 middle.0 first.parts
-          (append_parts cond_first.front (second.token ∷ (step_first.front ++ closing.token ∷ xs)) behind middle.0 cond.0.1 cond_first.parts
+          cons_parts opening.token (start_first.front ++ first.token ∷ (cond_first.front ++ second.token ∷
+          (step_first.front ++ closing.token ∷ xs))) behind tokens head.0 opening.parts
+          (append_parts start_first.front (first.token ∷ (cond_first.front ++ second.token ∷
+          (step_first.front ++ closing.token ∷ xs))) behind head.0 start.0.1 start_first.parts
+          (cons_parts first.token (cond_first.front ++ second.token ∷ (step_first.front ++ closing.token ∷ xs))
+          behind start.0.1 middle.0 first.parts
+          (append_parts cond_first.front (second.token ∷ (step_first.front ++ closing.token ∷ xs)) behind middle.0
+          cond.0.1 cond_first.parts
           (cons_parts second.token (step_first.front ++ closing.token ∷ xs) behind cond.0.1 last.0 second.parts
           (append_parts step_first.front (closing.token ∷ xs) behind last.0 step.0.1 step_first.parts
           (cons_parts closing.token xs behind step.0.1 body.0 closing.parts is))))));
@@ -253,14 +282,29 @@ for_at-sound room inside word tokens read sound is found =
     let body = stepped (inside head.0.1) _ read head.2 in
     let head_first = head_at-sound room tokens head.0 head.1 in
     let body_first = sound head.0.1 body.0 body.1 in
-    let whole : List Token = head_first.opening ∷ (head_first.us ++ head_first.first ∷ (head_first.vs ++ head_first.second ∷ (head_first.ws ++ head_first.closing ∷ body_first.front))) in
-    subst (λ r. StatementFirst (suc room) (word ∷ tokens) r.0 r.1) {x = (tree.For (raw_optional head.0.0.0) head.0.0.1 (raw_optional head.0.0.2) (raw_one body.0.0), body.0.1)} (given body.2) (record {
+    let whole : List Token = head_first.opening ∷ (head_first.us ++ head_first.first ∷
+    (head_first.vs ++ head_first.second ∷ (head_first.ws ++ head_first.closing ∷ body_first.front))) in
+    subst (λ r. StatementFirst (suc room) (word ∷ tokens) r.0 r.1) {x = (
+      tree.For
+          (raw_optional head.0.0.0) head.0.0.1 (raw_optional head.0.0.2) (raw_one body.0.0),
+      body.0.1,
+    )} (given body.2)
+    (record {
       front = word ∷ whole;
-      parts = cons_parts word whole body.0.1 (word ∷ tokens) tokens refl (head_first.parts body_first.front body.0.1 body_first.parts);
-      spells = SpellsStatement.for head.0.0.0 head.0.0.1 head.0.0.2 body.0.0 word head_first.opening head_first.first head_first.second head_first.closing
-          head_first.us head_first.vs head_first.ws body_first.front is head_first.opening_is head_first.first_is head_first.second_is head_first.closing_is head_first.spells_start.0 head_first.spells_cond.0
+      parts = cons_parts word whole body.0.1 (word ∷ tokens) tokens refl
+          (head_first.parts body_first.front body.0.1 body_first.parts);
+      spells = SpellsStatement.for head.0.0.0 head.0.0.1 head.0.0.2 body.0.0 word head_first.opening head_first.first
+          head_first.second head_first.closing
+          head_first.us head_first.vs head_first.ws body_first.front is head_first.opening_is head_first.first_is
+          head_first.second_is head_first.closing_is head_first.spells_start.0 head_first.spells_cond.0
           head_first.spells_step.0 body_first.spells;
-      within = omega (arith, head_first.spells_start.1, head_first.spells_cond.1, head_first.spells_step.1, body_first.within);
+      within = omega (
+        arith,
+        head_first.spells_start.1,
+        head_first.spells_cond.1,
+        head_first.spells_step.1,
+        body_first.within,
+      );
       closed = body_first.closed;
     })
 
@@ -349,7 +393,8 @@ entries_within-sound room inside (suc n) tokens read sound found =
     go : (behind : Option (List Token)) → behind_sign sign.CloseCurly tokens ≡ behind
         → entries_by behind (entry_at room inside tokens >>= λ x. entries_within (entry_at room inside) n x.1 >>= λ y.
         Some (x.0 ∷ y.0, y.1)) ≡ Some read
-        → ((others : List Token) (r : List Statement × List Token) → entries_within (entry_at room inside) n others ≡ Some r → EntriesFirst room others r.0 r.1)
+        → ((others : List Token) (r : List Statement × List Token) → entries_within
+        (entry_at room inside) n others ≡ Some r → EntriesFirst room others r.0 r.1)
         → EntriesFirst room tokens read.0 read.1
     go (Some others) is same more =
         let closing = behind_sign-found sign.CloseCurly tokens others is in

@@ -80,7 +80,8 @@ initialiser-complete room _ _ after SpellsOptional.nothing low other ends =
     ap (λ behind. optional behind after (shallow_at room)) (behind_sign-none sign.Assign after other)
 initialiser-complete room _ _ after (SpellsOptional.something _ _ (SpellsInitialiser.initialiser e first us is spells)) low
     other ends =
-    ap (λ behind. optional behind (first ∷ us ++ after) (shallow_at room)) (behind_sign-here sign.Assign first (us ++ after) is)
+    ap (λ behind. optional behind (first ∷ us ++ after) (shallow_at room)) (behind_sign-here sign.Assign first
+    (us ++ after) is)
     ∙ step (λ x. Some (Some x.0, x.1)) (e, after) (shallow-complete room e us after spells ends low) refl
 
 -- Neither an initialiser nor an expression goes on here.
@@ -113,11 +114,13 @@ listed-within Spells Ends item _ us after zero spells complete comma ends last e
 listed-within Spells Ends item _ _ after (suc n) (SpellsListed.last x us spells) complete comma ends last enough =
     step _ (x, after) (complete x us after spells ends)
     (ap (λ behind. listed_by x after behind (listed_within item n)) (behind_sign-none sign.Comma after last))
-listed-within Spells Ends item _ _ after (suc n) (SpellsListed.more x others first us vs is spells spells_others) complete comma
+listed-within Spells Ends item _ _ after (suc n) (SpellsListed.more x others first us vs is spells spells_others)
+    complete comma
     ends last enough =
     rw (append_assoc us (first ∷ vs) after)
     (step _ (x, first ∷ vs ++ after) (complete x us (first ∷ vs ++ after) spells (comma first (vs ++ after) is))
-    (ap (λ behind. listed_by x (first ∷ vs ++ after) behind (listed_within item n)) (behind_sign-here sign.Comma first (vs ++ after) is)
+    (ap (λ behind. listed_by x (first ∷ vs ++ after) behind (listed_within item n))
+    (behind_sign-here sign.Comma first (vs ++ after) is)
     ∙ step (λ y. Some (x ∷ y.0, y.1)) (others, after)
     (listed-within Spells Ends item others vs after n spells_others complete comma ends last
     (omega (arith, length-append us (first ∷ vs)))) refl))
@@ -138,7 +141,8 @@ shallow-listed : (room : ℕ) (declarators : List RawDeclared) (us : List Token)
     → SpellsListed (SpellsShallowDeclarator room) declarators us
 shallow-listed room _ us (SpellsListed.last x vs spells) low = SpellsListed.last x vs (spells, omega (arith, low))
 shallow-listed room _ us (SpellsListed.more x others comma vs ws is spells spells_others) low =
-    SpellsListed.more x others comma vs ws is (spells, omega (arith, low)) (shallow-listed room others ws spells_others (omega (arith, low)))
+    SpellsListed.more x others comma vs ws is (spells, omega (arith, low))
+    (shallow-listed room others ws spells_others (omega (arith, low)))
 
 declarators-comma : AllowsComma EndsDeclarator
 declarators-comma comma others is = record {
@@ -181,7 +185,8 @@ parameter-complete var _ after (SpellsParameter.parameter _ us vs type spells_na
     (name-complete var vs after spells_name))
 
 parameter-first : (var : Var) (us : List Token) → SpellsParameter var us → FirstIs starts_type us
-parameter-first var _ (SpellsParameter.parameter _ us vs type spells_name) = FirstIs-append starts_type us vs (type-first us type)
+parameter-first var _ (SpellsParameter.parameter _ us vs type spells_name) = FirstIs-append starts_type us vs
+    (type-first us type)
 
 pub parameters-complete : (vars : List Var) (us : List Token) (closing : Token) (after : List Token)
     → SpellsParameters vars us → closing.kind ≡ k.CloseRound → parameters_at (us ++ closing ∷ after) ≡ Some (vars, after)
@@ -195,10 +200,12 @@ parameters-complete vars us closing after (SpellsParameters.listed _ _ spells) i
     let first : FirstIs starts_type tokens = FirstIs-append starts_type us (closing ∷ after)
     (listed-first starts_type SpellsParameter vars us parameter-first spells) in
     let none : behind_sign sign.CloseRound (skipped sign.Void tokens) ≡ None =
-    ap (behind_sign sign.CloseRound) (skipped-not sign.Void tokens (begins-not starts_type sign.Void tokens type-no_void first))
+    ap (behind_sign sign.CloseRound) (skipped-not sign.Void tokens (begins-not starts_type sign.Void tokens
+    type-no_void first))
     ∙ behind_sign-not starts_type sign.CloseRound tokens type-no_bracket first in
     ap (λ behind. parameters_by behind tokens) none
-    ∙ step _ (vars, closing ∷ after) (listed-complete SpellsParameter (λ l. Unit {0}) parameter_at vars us (closing ∷ after) spells
+    ∙ step _ (vars, closing ∷ after) (listed-complete SpellsParameter (λ l. Unit {0}) parameter_at vars us
+    (closing ∷ after) spells
     (λ x ws others parameter ends. parameter-complete x ws others parameter) (λ comma others a. tt) tt
     (kind-not sign.Comma closing k.CloseRound is refl))
     (step _ after (behind_sign-here sign.CloseRound closing after is) refl)

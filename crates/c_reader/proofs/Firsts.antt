@@ -60,7 +60,8 @@ unfolding starts_type
 type-first _ (SpellsType.int first is) = first_is starts_type first [] k.Int is refl
 type-first _ (SpellsType.long first is) = first_is starts_type first [] k.Long is refl
 type-first _ (SpellsType.long_int first second is_long is_int) = first_is starts_type first (second ∷ []) k.Long is_long refl
-type-first _ (SpellsType.long_long first second is_long is_again) = first_is starts_type first (second ∷ []) k.Long is_long refl
+type-first _ (SpellsType.long_long first second is_long is_again) = first_is starts_type first
+    (second ∷ []) k.Long is_long refl
 type-first _ (SpellsType.long_long_int first second third is_long is_again is_int) =
     first_is starts_type first (second ∷ third ∷ []) k.Long is_long refl
 
@@ -271,15 +272,19 @@ statement-first s _ (SpellsStatement.simple _ semicolon us ends spells) =
     let at = simple-first s us spells in
     FirstIs-append starts_statement us (semicolon ∷ [])
     (record { first = at.first; others = at.others; parts = at.parts; is = simple-starts at.first.kind at.is })
-statement-first _ _ (SpellsStatement.if_alone cond first word opening closing us vs is opens closes spells_cond spells_first) =
+statement-first _ _ (SpellsStatement.if_alone cond first word opening closing us vs is opens closes spells_cond
+    spells_first) =
     first_is starts_statement word (opening ∷ (us ++ closing ∷ vs)) k.If is refl
-statement-first _ _ (SpellsStatement.if_else cond first second word opening closing other us vs ws is opens closes is_else spells_cond spells_first shut spells_second) =
+statement-first _ _ (SpellsStatement.if_else cond first second word opening closing other us vs ws is opens closes
+    is_else spells_cond spells_first shut spells_second) =
     first_is starts_statement word (opening ∷ (us ++ closing ∷ (vs ++ other ∷ ws))) k.If is refl
 statement-first _ _ (SpellsStatement.while cond body word opening closing us vs is opens closes spells_cond spells_body) =
     first_is starts_statement word (opening ∷ (us ++ closing ∷ vs)) k.While is refl
-statement-first _ _ (SpellsStatement.do_while body cond first word opening closing semicolon us vs is is_while opens closes ends spells_body spells_cond) =
+statement-first _ _ (SpellsStatement.do_while body cond first word opening closing semicolon us vs is is_while opens
+    closes ends spells_body spells_cond) =
     first_is starts_statement first (us ++ word ∷ opening ∷ (vs ++ closing ∷ semicolon ∷ [])) k.Do is refl
-statement-first _ _ (SpellsStatement.for start cond step body word opening first second closing us vs ws xs is opens ends_first ends_second closes spells_start spells_cond spells_step spells_body) =
+statement-first _ _ (SpellsStatement.for start cond step body word opening first second closing us vs ws xs is opens
+    ends_first ends_second closes spells_start spells_cond spells_step spells_body) =
     first_is starts_statement word (opening ∷ (us ++ first ∷ (vs ++ second ∷ (ws ++ closing ∷ xs)))) k.For is refl
 statement-first _ _ (SpellsStatement.break word semicolon is ends) =
     first_is starts_statement word (semicolon ∷ []) k.Break is refl

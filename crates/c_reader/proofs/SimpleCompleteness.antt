@@ -52,7 +52,8 @@ change-assign : (room : ℕ) (name : List ℕ) (line : ℕ) (e : RawExpression) 
     → change_at room name line (first ∷ us ++ after) ≡ Some (tree.Assign name line e, after)
 unfolding change_at
 change-assign room name line e first us after is spells low ends =
-    rw (test-from_HasSign sign.Assign first.kind is) (step _ (e, after) (shallow-complete room e us after spells ends low) refl)
+    rw (test-from_HasSign sign.Assign first.kind is) (step _ (e, after)
+    (shallow-complete room e us after spells ends low) refl)
 
 change-update : (room : ℕ) (name : List ℕ) (line : ℕ) (op : BinOp) (e : RawExpression) (first : Token)
     (us after : List Token) → update_of first.kind ≡ Some op → SpellsExpression e us → expression_depth e ≤ room - 1
@@ -117,10 +118,12 @@ condition-complete room _ us after (SpellsCondition.unmarked e _ spells) low end
     expression-no_mark (FirstIs-append starts_expression us after (expression-first e us spells)))
     ∙ step _ (e, after) (shallow-complete room e us after spells ends low) refl
 condition-complete room _ _ after
-    (SpellsCondition.marked _ e joint _ vs (SpellsMark.mark number word opening constant closing is_mark opens is_constant closes) is spells) low
+    (SpellsCondition.marked _ e joint _ vs (SpellsMark.mark number word opening constant closing is_mark opens
+    is_constant closes) is spells) low
     ends =
     ap (λ behind. condition_by room behind (word ∷ opening ∷ constant ∷ closing ∷ joint ∷ vs ++ after))
     (behind_sign-here sign.MarkWord word (opening ∷ constant ∷ closing ∷ joint ∷ vs ++ after) is_mark)
-    ∙ step _ (number, joint ∷ vs ++ after) (mark-complete number opening constant closing (joint ∷ vs ++ after) opens is_constant closes)
+    ∙ step _ (number, joint ∷ vs ++ after) (mark-complete number opening constant closing
+    (joint ∷ vs ++ after) opens is_constant closes)
     (step _ (vs ++ after) (behind_sign-here sign.Ampersand joint (vs ++ after) is)
     (step _ (e, after) (shallow-complete room e vs after spells ends low) refl))

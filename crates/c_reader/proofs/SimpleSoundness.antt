@@ -99,7 +99,8 @@ assigned-sound room name word first others true read named is found =
       front = word ∷ first ∷ value.at.front;
       parts = ap (λ (l : List Token). word ∷ first ∷ l) value.at.parts;
       spells = (
-        spelled.SpellsSimple.assignment name x.0.0 word first value.at.front named (HasSign-from_test sign.Assign first.kind is)
+        spelled.SpellsSimple.assignment name x.0.0 word first value.at.front named
+            (HasSign-from_test sign.Assign first.kind is)
             value.at.spells,
         omega (arith, value.within),
       );
@@ -193,7 +194,8 @@ condition-by room tokens (Some others) read is found =
       parts = append_parts mark.front (joint.token ∷ value.at.front) y.0.1 tokens x.0.1 (word.parts ∙ mark.parts)
           (cons_parts joint.token value.at.front y.0.1 x.0.1 after.0 joint.parts value.at.parts);
       spells = (
-        spelled.SpellsCondition.marked x.0.0 y.0.0 joint.token mark.front value.at.front mark.spells joint.has value.at.spells,
+        spelled.SpellsCondition.marked x.0.0 y.0.0 joint.token mark.front value.at.front mark.spells joint.has
+            value.at.spells,
         value.within,
       );
     })
@@ -208,10 +210,25 @@ start-by : (room : ℕ) (tokens : List Token) (test : Bool) (read : Statement ×
     → Front (SpellsWithin spelled.SpellsStart room) tokens read.0 read.1
 start-by room tokens true read found =
     let at = declaration_at-sound room tokens read found in
-    record { front = at.front; parts = at.parts; spells = (spelled.SpellsStart.declaration read.0 at.front at.spells.0, at.spells.1) }
+    record {
+      front = at.front;
+      parts = at.parts;
+      spells = (
+        spelled.SpellsStart.declaration read.0 at.front
+            at.spells.0,
+        at.spells.1,
+      );
+    }
 start-by room tokens false read found =
     let at = simple_at-sound room tokens read found in
-    record { front = at.front; parts = at.parts; spells = (spelled.SpellsStart.simple read.0 at.front at.spells.0, at.spells.1) }
+    record {
+      front = at.front;
+      parts = at.parts;
+      spells = (
+        spelled.SpellsStart.simple read.0 at.front at.spells.0,
+        at.spells.1,
+      );
+    }
 
 pub start_at-sound : (room : ℕ) → IsSound (SpellsWithin spelled.SpellsStart room) (start_at room)
 unfolding start_at

@@ -55,8 +55,10 @@ start-complete : (s : Statement) (us : List Token) (semicolon : Token) (after : 
 unfolding start_at
 start-complete s us semicolon after room (SpellsStart.simple _ _ spells) is low =
     let tokens = us ++ semicolon ∷ after in
-    let first : FirstIs starts_simple tokens = FirstIs-append starts_simple us (semicolon ∷ after) (simple-first s us spells) in
-    let other : begins_type tokens ≡ false = begins_type-not tokens (begins-not starts_simple sign.Int tokens simple-no_int first)
+    let first : FirstIs starts_simple tokens = FirstIs-append starts_simple us (semicolon ∷ after)
+    (simple-first s us spells) in
+    let other : begins_type tokens ≡ false = begins_type-not tokens (begins-not starts_simple sign.Int tokens
+    simple-no_int first)
     (begins-not starts_simple sign.Long tokens simple-no_long first) in
     ap (λ (b : Bool). if b then declaration_at room tokens else simple_at room tokens) other
     ∙ simple-complete s us (semicolon ∷ after) room spells low (ends-at k.Semicolon semicolon after is refl (λ asks. cc))
@@ -94,7 +96,8 @@ condition-no_semicolon _ us vs (SpellsCondition.unmarked e _ spells) =
     begins-not starts_expression sign.Semicolon (us ++ vs) expression-no_semicolon
     (FirstIs-append starts_expression us vs (expression-first e us spells))
 condition-no_semicolon _ _ vs
-    (SpellsCondition.marked _ e joint _ ws (SpellsMark.mark number word opening constant closing is_mark opens is_constant closes) is spells) =
+    (SpellsCondition.marked _ e joint _ ws (SpellsMark.mark number word opening constant closing is_mark opens
+    is_constant closes) is spells) =
     kind-not sign.Semicolon word k.MarkWord is_mark refl
 
 start-first : (s : Statement) (us vs : List Token) → SpellsStart s us → begins sign.Semicolon (us ++ vs) ≡ false
@@ -112,21 +115,29 @@ head-complete : (room : ℕ) (start : Option Statement) (cond : Option RawCondit
     → SpellsOptional (SpellsWithin SpellsSimple room) each ws
     → head_at room (opening ∷ (us ++ first ∷ (vs ++ second ∷ (ws ++ closing ∷ after)))) ≡ Some ((start, cond, each), after)
 unfolding head_at
-head-complete room start cond each opening first second closing us vs ws after opens ends_first ends_second closes spells_start spells_cond spells_each =
+head-complete room start cond each opening first second closing us vs ws after opens ends_first ends_second closes
+    spells_start spells_cond spells_each =
     let last : List Token = ws ++ closing ∷ after in
     let middle : List Token = vs ++ second ∷ last in
     step _ (us ++ first ∷ middle) (behind_sign-here sign.OpenRound opening (us ++ first ∷ middle) opens)
-    (step _ (start, first ∷ middle) (unless-complete (SpellsWithin SpellsStart room) (start_at room) sign.Semicolon start us first middle spells_start ends_first
-    (λ s xs spells. (start-first s xs (first ∷ middle) spells.0, start-complete s xs first middle room spells.0 ends_first spells.1)))
+    (step _ (start, first ∷ middle) (unless-complete (SpellsWithin SpellsStart room)
+    (start_at room) sign.Semicolon start us first middle spells_start ends_first
+    (λ s xs spells. (
+      start-first s xs (first ∷ middle) spells.0,
+      start-complete s xs first middle room spells.0
+          ends_first spells.1,
+    )))
     (step _ middle (behind_sign-here sign.Semicolon first middle ends_first)
-    (step _ (cond, second ∷ last) (unless-complete (SpellsShallowCondition room) (condition_at room) sign.Semicolon cond vs second last spells_cond ends_second
+    (step _ (cond, second ∷ last) (unless-complete (SpellsShallowCondition room)
+    (condition_at room) sign.Semicolon cond vs second last spells_cond ends_second
     (λ x xs spells. (
       condition-no_semicolon x xs (second ∷ last) spells.0,
       condition-complete room x xs (second ∷ last) spells.0 spells.1
           (ends-at k.Semicolon second last ends_second refl (λ asks. cc)),
     )))
     (step _ last (behind_sign-here sign.Semicolon second last ends_second)
-    (step _ (each, closing ∷ after) (unless-complete (SpellsWithin SpellsSimple room) (simple_at room) sign.CloseRound each ws closing after spells_each closes
+    (step _ (each, closing ∷ after) (unless-complete (SpellsWithin SpellsSimple room)
+    (simple_at room) sign.CloseRound each ws closing after spells_each closes
     (λ s xs spells. (
       begins-not starts_simple sign.CloseRound (xs ++ closing ∷ after) simple-no_bracket
           (FirstIs-append starts_simple xs (closing ∷ after) (simple-first s xs spells.0)),
@@ -145,7 +156,8 @@ for-complete : (room : ℕ) (start : Option Statement) (cond : Option RawConditi
     → statement_at (suc room) ((word ∷ opening ∷ (us ++ first ∷ (vs ++ second ∷ (ws ++ closing ∷ xs)))) ++ after)
     ≡ Some (tree.For (raw_optional start) cond (raw_optional each) (raw_one body), after)
 unfolding statement_at for_at
-for-complete room start cond each body word opening first second closing us vs ws xs after is opens ends_first ends_second closes spells_start spells_cond
+for-complete room start cond each body word opening first second closing us vs ws xs after is opens ends_first
+    ends_second closes spells_start spells_cond
     spells_each inner =
     let last : List Token = ws ++ closing ∷ (xs ++ after) in
     let middle : List Token = vs ++ second ∷ last in
@@ -156,14 +168,19 @@ for-complete room start cond each body word opening first second closing us vs w
     ∙ ap (λ (l : List Token). vs ++ second ∷ l) (append_assoc ws (closing ∷ xs) after)) in
     ap (λ (l : List Token). statement_at (suc room) (word ∷ opening ∷ l)) parts
     ∙ ap (λ kind. statement_by room (statement_at room) kind word tokens) is
-    ∙ step _ ((start, cond, each), xs ++ after) (head-complete room start cond each opening first second closing us vs ws (xs ++ after) opens ends_first ends_second closes
+    ∙ step _ ((start, cond, each), xs ++ after) (head-complete room start cond each opening first second closing us
+    vs ws (xs ++ after) opens ends_first ends_second closes
     spells_start spells_cond spells_each)
     (step _ (body, after) inner refl)
 
 while-complete : (room : ℕ) (cond : RawCondition) (body : Statement) (word opening closing : Token) (us vs after : List Token)
     → word.kind ≡ k.While → opening.kind ≡ k.OpenRound → closing.kind ≡ k.CloseRound → SpellsCondition cond us
     → expression_depth cond.cond ≤ room → statement_at room (vs ++ after) ≡ Some (body, after)
-    → statement_at (suc room) ((word ∷ opening ∷ (us ++ closing ∷ vs)) ++ after) ≡ Some (tree.While cond (raw_one body), after)
+    → statement_at (suc room) ((word ∷ opening ∷ (us ++ closing ∷ vs)) ++ after) ≡ Some (
+      tree.While cond
+          (raw_one body),
+      after,
+    )
 unfolding statement_at while_at
 while-complete room cond body word opening closing us vs after is opens closes spells low inner =
     let tokens : List Token = us ++ closing ∷ (vs ++ after) in
@@ -213,7 +230,8 @@ if-complete room cond s word opening closing us vs after is opens closes spells 
     (ends-at k.CloseRound closing (vs ++ after) closes refl (λ asks. cc)) low)
     (step _ (vs ++ after) (behind_sign-here sign.CloseRound closing (vs ++ after) closes)
     (step _ (s, after) inner
-    (step _ (None, after) (ap (λ behind. optional behind after (statement_at room)) (behind_sign-none sign.Else after none)) refl))))
+    (step _ (None, after) (ap (λ behind. optional behind after (statement_at room))
+    (behind_sign-none sign.Else after none)) refl))))
 
 if_else-complete : (room : ℕ) (cond : RawExpression) (s t : Statement) (word opening closing other : Token)
     (us vs ws after : List Token) → word.kind ≡ k.If → opening.kind ≡ k.OpenRound → closing.kind ≡ k.CloseRound
@@ -236,7 +254,8 @@ if_else-complete room cond s t word opening closing other us vs ws after is open
     (ends-at k.CloseRound closing back closes refl (λ asks. cc)) low)
     (step _ back (behind_sign-here sign.CloseRound closing back closes)
     (step _ (s, other ∷ rest_of) inner
-    (step _ (Some t, after) (ap (λ behind. optional behind (other ∷ rest_of) (statement_at room)) (behind_sign-here sign.Else other rest_of is_else)
+    (step _ (Some t, after) (ap (λ behind. optional behind (other ∷ rest_of) (statement_at room))
+    (behind_sign-here sign.Else other rest_of is_else)
     ∙ step _ (t, after) second refl) refl))))
 
 -- where an assignment begins, one is read
@@ -287,15 +306,22 @@ entries-no_else _ _ closing after (SpellsEntries.statement s others us vs spells
 positive : (s : Statement) (us : List Token) → SpellsStatement s us → 1 ≤ statements_depth (s tree.Nil)
 positive _ _ (SpellsStatement.block entries opening closing us is closes spells) = omega arith
 positive _ _ (SpellsStatement.empty semicolon is) = omega arith
-positive _ _ (SpellsStatement.simple _ semicolon _ ends (SpellsSimple.assignment name e word sign us named is spells)) = omega arith
-positive _ _ (SpellsStatement.simple _ semicolon _ ends (SpellsSimple.update name op e word sign us named is spells)) = omega arith
+positive _ _ (SpellsStatement.simple _ semicolon _ ends (SpellsSimple.assignment name e word sign us named is
+    spells)) = omega arith
+positive _ _ (SpellsStatement.simple _ semicolon _ ends (SpellsSimple.update name op e word sign us named is spells))
+    = omega arith
 positive _ _ (SpellsStatement.simple _ semicolon _ ends (SpellsSimple.step_behind name op word sign named is)) = omega arith
 positive _ _ (SpellsStatement.simple _ semicolon _ ends (SpellsSimple.step_before name op word sign named is)) = omega arith
-positive _ _ (SpellsStatement.if_alone cond first word opening closing us vs is opens closes spells_cond spells_first) = omega arith
-positive _ _ (SpellsStatement.if_else cond first second word opening closing other us vs ws is opens closes is_else spells_cond spells_first shut spells_second) = omega arith
-positive _ _ (SpellsStatement.while cond body word opening closing us vs is opens closes spells_cond spells_body) = omega arith
-positive _ _ (SpellsStatement.do_while body cond first word opening closing semicolon us vs is is_while opens closes ends spells_body spells_cond) = omega arith
-positive _ _ (SpellsStatement.for start cond step body word opening first second closing us vs ws xs is opens ends_first ends_second closes spells_start spells_cond spells_step spells_body) = omega arith
+positive _ _ (SpellsStatement.if_alone cond first word opening closing us vs is opens closes spells_cond
+    spells_first) = omega arith
+positive _ _ (SpellsStatement.if_else cond first second word opening closing other us vs ws is opens closes is_else
+    spells_cond spells_first shut spells_second) = omega arith
+positive _ _ (SpellsStatement.while cond body word opening closing us vs is opens closes spells_cond spells_body) =
+    omega arith
+positive _ _ (SpellsStatement.do_while body cond first word opening closing semicolon us vs is is_while opens closes
+    ends spells_body spells_cond) = omega arith
+positive _ _ (SpellsStatement.for start cond step body word opening first second closing us vs ws xs is opens
+    ends_first ends_second closes spells_start spells_cond spells_step spells_body) = omega arith
 positive _ _ (SpellsStatement.break word semicolon is ends) = omega arith
 positive _ _ (SpellsStatement.continue word semicolon is ends) = omega arith
 positive _ _ (SpellsStatement.return e word semicolon us is ends spells) = omega arith
@@ -312,12 +338,16 @@ unfolding entry_at
 declaration-entry room n s others semicolon closing us vs after is spells low more_entries =
     let behind_it : List Token = vs ++ closing ∷ after in
     let tokens : List Token = us ++ semicolon ∷ behind_it in
-    let first : FirstIs starts_type tokens = FirstIs-append starts_type us (semicolon ∷ behind_it) (declaration-first s us spells) in
+    let first : FirstIs starts_type tokens = FirstIs-append starts_type us (semicolon ∷ behind_it)
+    (declaration-first s us spells) in
     ap (entries_within (entry_at room (statement_at room)) (suc n)) (append_assoc us (semicolon ∷ vs) (closing ∷ after))
-    ∙ on-by (entry_at room (statement_at room)) tokens n (behind_sign-not starts_type sign.CloseCurly tokens type-no_brace first)
+    ∙ on-by (entry_at room (statement_at room)) tokens n (behind_sign-not starts_type sign.CloseCurly tokens
+    type-no_brace first)
     ∙ step _ (s, behind_it)
-    (ap (λ (b : Bool). if b then (declaration_at room tokens >>= λ x. ended x.0 x.1) else statement_at room tokens) (begins_type-here tokens first)
-    ∙ step _ (s, semicolon ∷ behind_it) (declaration-complete s us semicolon behind_it room spells is low) (ended-here s semicolon behind_it is))
+    (ap (λ (b : Bool). if b then (declaration_at room tokens >>= λ x. ended x.0 x.1) else statement_at room tokens)
+    (begins_type-here tokens first)
+    ∙ step _ (s, semicolon ∷ behind_it) (declaration-complete s us semicolon behind_it room spells is low)
+    (ended-here s semicolon behind_it is))
     (step _ (others, after) more_entries refl)
 
 -- or a statement
@@ -329,7 +359,8 @@ unfolding entry_at
 statement-entry room n s others closing us vs after spells read more_entries =
     let behind_it : List Token = vs ++ closing ∷ after in
     let tokens : List Token = us ++ behind_it in
-    let first : FirstIs starts_statement tokens = FirstIs-append starts_statement us behind_it (statement-first s us spells) in
+    let first : FirstIs starts_statement tokens = FirstIs-append starts_statement us behind_it
+    (statement-first s us spells) in
     ap (entries_within (entry_at room (statement_at room)) (suc n)) (append_assoc us vs (closing ∷ after))
     ∙ on-by (entry_at room (statement_at room)) tokens n
     (behind_sign-not starts_statement sign.CloseCurly tokens statement-no_brace first)
@@ -367,9 +398,11 @@ return-complete room e word semicolon us after is ends spells low =
 
 mark-read : (room number : ℕ) (semicolon : Token) (us after : List Token) → semicolon.kind ≡ k.Semicolon
     → SpellsMark number us → statement_at (suc room) ((us ++ semicolon ∷ []) ++ after) ≡ Some (tree.Mark number, after)
-mark-read room _ semicolon _ after is (SpellsMark.mark number word opening constant closing is_mark opens is_constant closes) =
+mark-read room _ semicolon _ after is (SpellsMark.mark number word opening constant closing is_mark opens is_constant
+    closes) =
     short-complete room k.MarkWord (tree.Mark number) word (opening ∷ constant ∷ closing ∷ semicolon ∷ after) after is_mark
-    (step _ (number, semicolon ∷ after) (mark-complete number opening constant closing (semicolon ∷ after) opens is_constant closes)
+    (step _ (number, semicolon ∷ after) (mark-complete number opening constant closing
+    (semicolon ∷ after) opens is_constant closes)
     (ended-here (tree.Mark number) semicolon after is))
 
 mutual
@@ -386,26 +419,37 @@ mutual
       short-complete room k.Semicolon tree.Empty semicolon after after is refl
   statement-complete s _ (SpellsStatement.simple _ semicolon us ends spells) (suc room) after low follows =
       simple-read room s semicolon us after ends spells low
-  statement-complete _ _ (SpellsStatement.if_alone cond first word opening closing us vs is opens closes spells_cond spells_first) (suc room) after low
+  statement-complete _ _ (SpellsStatement.if_alone cond first word opening closing us vs is opens closes spells_cond
+      spells_first) (suc room) after low
       follows =
       if-complete room cond first word opening closing us vs after is opens closes spells_cond (omega (arith, low))
       (statement-complete first vs spells_first room after (omega (arith, low)) (λ is_open. follows refl)) (follows refl)
-  statement-complete _ _ (SpellsStatement.if_else cond first second word opening closing other us vs ws is opens closes is_else spells_cond spells_first shut spells_second)
+  statement-complete _ _ (SpellsStatement.if_else cond first second word opening closing other us vs ws is opens
+      closes is_else spells_cond spells_first shut spells_second)
       (suc room) after low follows =
-      if_else-complete room cond first second word opening closing other us vs ws after is opens closes is_else spells_cond (omega (arith, low))
-      (statement-complete first vs spells_first room (other ∷ (ws ++ after)) (omega (arith, low)) (λ is_open. absurd (closed_for (ends_open (raw_one first)) shut is_open)))
+      if_else-complete room cond first second word opening closing other us vs ws after is opens closes is_else
+      spells_cond (omega (arith, low))
+      (statement-complete first vs spells_first room (other ∷ (ws ++ after)) (omega (arith, low)) (λ is_open. absurd
+      (closed_for (ends_open (raw_one first)) shut is_open)))
       (statement-complete second ws spells_second room after (omega (arith, low)) follows)
-  statement-complete _ _ (SpellsStatement.while cond body word opening closing us vs is opens closes spells_cond spells_body) (suc room) after low follows =
+  statement-complete _ _ (SpellsStatement.while cond body word opening closing us vs is opens closes spells_cond
+      spells_body) (suc room) after low follows =
       while-complete room cond body word opening closing us vs after is opens closes spells_cond (omega (arith, low))
       (statement-complete body vs spells_body room after (omega (arith, low)) follows)
-  statement-complete _ _ (SpellsStatement.do_while body cond first word opening closing semicolon us vs is is_while opens closes ends spells_body spells_cond)
+  statement-complete _ _ (SpellsStatement.do_while body cond first word opening closing semicolon us vs is is_while
+      opens closes ends spells_body spells_cond)
       (suc room) after low follows =
-      do-complete room body cond first word opening closing semicolon us vs after is is_while opens closes ends spells_cond (omega (arith, low))
-      (λ others. statement-complete body us spells_body room (word ∷ others) (omega (arith, low)) (λ is_open. kind-not sign.Else word k.While is_while refl))
-  statement-complete _ _ (SpellsStatement.for start cond step body word opening first second closing us vs ws xs is opens ends_first ends_second closes spells_start spells_cond spells_step spells_body)
+      do-complete room body cond first word opening closing semicolon us vs after is is_while opens closes ends
+      spells_cond (omega (arith, low))
+      (λ others. statement-complete body us spells_body room (word ∷ others) (omega (arith, low))
+      (λ is_open. kind-not sign.Else word k.While is_while refl))
+  statement-complete _ _ (SpellsStatement.for start cond step body word opening first second closing us vs ws xs is
+      opens ends_first ends_second closes spells_start spells_cond spells_step spells_body)
       (suc room) after low follows =
-      for-complete room start cond step body word opening first second closing us vs ws xs after is opens ends_first ends_second closes
-      (within-optional SpellsStart room start us spells_start (omega (arith, low))) (shallow-optional room cond vs spells_cond (omega (arith, low)))
+      for-complete room start cond step body word opening first second closing us vs ws xs after is opens ends_first
+      ends_second closes
+      (within-optional SpellsStart room start us spells_start (omega (arith, low)))
+      (shallow-optional room cond vs spells_cond (omega (arith, low)))
       (within-optional SpellsSimple room step ws spells_step (omega (arith, low)))
       (statement-complete body xs spells_body room after (omega (arith, low)) follows)
   statement-complete _ _ (SpellsStatement.break word semicolon is ends) (suc room) after low follows =
@@ -429,7 +473,8 @@ mutual
       ap (λ behind. entries_by behind (entry_at room (statement_at room) (closing ∷ after) >>= λ x.
       entries_within (entry_at room (statement_at room)) n x.1 >>= λ y. Some (x.0 ∷ y.0, y.1)))
       (behind_sign-here sign.CloseCurly closing after is)
-  entries-complete _ _ (SpellsEntries.declaration s others semicolon us vs ends spells more_entries) room (suc n) closing after
+  entries-complete _ _ (SpellsEntries.declaration s others semicolon us vs ends spells more_entries) room
+      (suc n) closing after
       low enough is =
       let level = declaration-level s us spells (raw_joined others) in
       declaration-entry room n s others semicolon closing us vs after ends spells (omega (arith, low, level))

@@ -44,14 +44,16 @@ typed-complete : (qualifiers us tokens : List Token) → AreQualifiers qualifier
     → behind_type (unqualified (qualifiers ++ (us ++ tokens))) ≡ Some tokens
 typed-complete qualifiers us tokens are type no_int no_long =
     ap behind_type (unqualified-complete qualifiers (us ++ tokens) are
-    (begins-not starts_type sign.Qualifier (us ++ tokens) type-no_qualifier (FirstIs-append starts_type us tokens (type-first us type))))
+    (begins-not starts_type sign.Qualifier (us ++ tokens) type-no_qualifier (FirstIs-append starts_type us tokens
+    (type-first us type))))
     ∙ type-complete us tokens type no_int no_long
 
 function-complete : (room : ℕ) (func : RawFunction) (us after : List Token) → SpellsFunction func us
     → statements_depth func.body ≤ room → item_at room (us ++ after) ≡ Some (Some func, after)
 unfolding item_at function_at entries_at
 function-complete room _ _ after
-    (SpellsFunction.function var params entries opening closing curly last qualifiers us vs ws xs opens closes opens_block closes_block are type spells_name
+    (SpellsFunction.function var params entries opening closing curly last qualifiers us vs ws xs opens closes
+    opens_block closes_block are type spells_name
     spells_params spells_entries) low =
     let block : List Token = xs ++ last ∷ after in
     let head : List Token = ws ++ closing ∷ curly ∷ block in
@@ -76,13 +78,15 @@ function-complete room _ _ after
     (step _ (entries, after) (entries-complete entries xs spells_entries room (suc (length block)) last after low
     (omega (arith, length-append xs (last ∷ after))) closes_block) refl))))) refl)
 
-name-or-bracket : (var : Option Var) (us : List Token) (closing : Token) (after : List Token) → SpellsOptional SpellsName var us
+name-or-bracket : (var : Option Var) (us : List Token) (closing : Token) (after : List Token)
+    → SpellsOptional SpellsName var us
     → closing.kind ≡ k.CloseRound
     → (begins sign.Int (us ++ closing ∷ after) ≡ false) × (begins sign.Long (us ++ closing ∷ after) ≡ false)
 name-or-bracket _ _ closing after SpellsOptional.nothing is =
     (kind-not sign.Int closing k.CloseRound is refl, kind-not sign.Long closing k.CloseRound is refl)
 name-or-bracket _ _ closing after (SpellsOptional.something var us spells) is =
-    let named : FirstIs starts_name (us ++ closing ∷ after) = FirstIs-append starts_name us (closing ∷ after) (name-first var us spells) in (
+    let named : FirstIs starts_name (us ++ closing ∷ after) = FirstIs-append starts_name us (closing ∷ after)
+    (name-first var us spells) in (
       begins-not starts_name sign.Int (us ++ closing ∷ after) name-no_int named,
       begins-not starts_name sign.Long (us ++ closing ∷ after) name-no_long named,
     )
@@ -91,7 +95,8 @@ mark-declaration-complete : (room : ℕ) (us after : List Token) → SpellsMarkD
     → item_at room (us ++ after) ≡ Some (None, after)
 unfolding item_at mark_declaration_at
 mark-declaration-complete room _ after
-    (SpellsMarkDeclaration.mark_declaration var word opening closing semicolon qualifiers us vs ws is_mark opens closes ends are type inner
+    (SpellsMarkDeclaration.mark_declaration var word opening closing semicolon qualifiers us vs ws is_mark opens
+    closes ends are type inner
     spells) =
     let last : List Token = closing ∷ semicolon ∷ after in
     let head : List Token = vs ++ (ws ++ last) in
@@ -135,7 +140,8 @@ item-more room n item funcs us vs some read others =
     ∙ step _ (item, vs) read (step _ funcs others refl)
 
 function-some : (func : RawFunction) (us : List Token) → SpellsFunction func us → 0 < length us
-function-some _ _ (SpellsFunction.function var params entries opening closing curly last qualifiers us vs ws xs opens closes opens_block closes_block are type
+function-some _ _ (SpellsFunction.function var params entries opening closing curly last qualifiers us vs ws xs opens
+    closes opens_block closes_block are type
     spells_name spells_params spells_entries) =
     let rest_of : List Token = vs ++ opening ∷ (ws ++ closing ∷ curly ∷ (xs ++ last ∷ [])) in
     omega (
@@ -146,7 +152,8 @@ function-some _ _ (SpellsFunction.function var params entries opening closing cu
     )
 
 mark_declaration-some : (us : List Token) → SpellsMarkDeclaration us → 0 < length us
-mark_declaration-some _ (SpellsMarkDeclaration.mark_declaration var word opening closing semicolon qualifiers us vs ws is_mark opens closes ends
+mark_declaration-some _ (SpellsMarkDeclaration.mark_declaration var word opening closing semicolon qualifiers us vs
+    ws is_mark opens closes ends
     are type inner spells) =
     let rest_of : List Token = word ∷ opening ∷ (vs ++ (ws ++ closing ∷ semicolon ∷ [])) in
     omega (

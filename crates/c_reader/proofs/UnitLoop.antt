@@ -23,7 +23,8 @@ after-more made item None = refl
 after-more made item (Some funcs) = ap Some (sym (append_assoc made item funcs))
 
 -- Behind what is read so far comes the rest of all.
-pub record ItemsSoFar (room : ℕ) (made : List RawFunction) (others : List Token) (whole : Option (List RawFunction)) : Type 0 where
+pub record ItemsSoFar (room : ℕ) (made : List RawFunction) (others : List Token) (whole : Option
+    (List RawFunction)) : Type 0 where
   pub fuel : ℕ
   pub enough : length others < fuel
   pub same : after made (items_within room fuel others) ≡ whole

@@ -95,12 +95,14 @@ function_at-sound room tokens read found =
     let tail : List Token = entries.front ++ entries.closing ∷ [] in
     subst (λ r. FunctionFirst room tokens r.0 r.1) (given body.2) (record {
       front = name.front ++ opening.token ∷ (ps.front ++ ps.closing ∷ curly.token ∷ tail);
-      parts = append_parts name.front (opening.token ∷ (ps.front ++ ps.closing ∷ curly.token ∷ tail)) body.0.1 tokens x.0.1 name.parts
+      parts = append_parts name.front (opening.token ∷ (ps.front ++ ps.closing ∷ curly.token ∷ tail)) body.0.1 tokens
+          x.0.1 name.parts
           (cons_parts opening.token (ps.front ++ ps.closing ∷ curly.token ∷ tail) body.0.1 x.0.1 head.0 opening.parts
           (append_parts ps.front (ps.closing ∷ curly.token ∷ tail) body.0.1 head.0 (ps.closing ∷ params.0.1) ps.parts
           (cons_parts ps.closing (curly.token ∷ tail) body.0.1 (ps.closing ∷ params.0.1) params.0.1 refl
           (cons_parts curly.token tail body.0.1 params.0.1 block.0 curly.parts entries.parts))));
-      spells = λ qualifiers us are type. SpellsFunction.function x.0.0 params.0.0 body.0.0 opening.token ps.closing curly.token
+      spells = λ qualifiers us are type. SpellsFunction.function x.0.0 params.0.0 body.0.0 opening.token ps.closing
+          curly.token
           entries.closing qualifiers us name.front ps.front entries.front opening.has ps.has curly.has entries.has are
           type name.spells ps.spells entries.spells;
       within = entries.within;
@@ -147,10 +149,12 @@ item-by room tokens others (Some behind_word) read qualifiers type is found =
     let mark = mark_declaration_at-sound word.token behind_word after.0 word.has after.1 in
     subst (λ r. ItemFirst room tokens r.0 r.1) (given after.2) (record {
       front = qualifiers.front ++ (type.front ++ word.token ∷ mark.front);
-      parts = append_parts qualifiers.front (type.front ++ word.token ∷ mark.front) after.0 tokens (unqualified tokens) qualifiers.parts
+      parts = append_parts qualifiers.front (type.front ++ word.token ∷ mark.front) after.0 tokens
+          (unqualified tokens) qualifiers.parts
           (append_parts type.front (word.token ∷ mark.front) after.0 (unqualified tokens) others type.parts
           (cons_parts word.token mark.front after.0 others behind_word word.parts mark.parts));
-      spells = λ vs funcs unit. SpellsUnit.mark_declaration funcs (qualifiers.front ++ (type.front ++ word.token ∷ mark.front)) vs
+      spells = λ vs funcs unit. SpellsUnit.mark_declaration funcs (qualifiers.front ++
+          (type.front ++ word.token ∷ mark.front)) vs
           (mark.spells qualifiers.front type.front qualifiers.are type.spells) unit;
       some = typed-some qualifiers.front type.front (word.token ∷ mark.front) type.spells;
       within = omega arith;
