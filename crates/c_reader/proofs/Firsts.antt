@@ -57,12 +57,13 @@ starts_type _ = false
 
 pub type-first : (us : List Token) → SpellsType us → FirstIs starts_type us
 unfolding starts_type
-type-first _ (SpellsType.int first a) = first_is starts_type first [] k.Int a refl
-type-first _ (SpellsType.long first a) = first_is starts_type first [] k.Long a refl
-type-first _ (SpellsType.long_int first second a b) = first_is starts_type first (second ∷ []) k.Long a refl
-type-first _ (SpellsType.long_long first second a b) = first_is starts_type first (second ∷ []) k.Long a refl
-type-first _ (SpellsType.long_long_int first second third a b c) =
-    first_is starts_type first (second ∷ third ∷ []) k.Long a refl
+type-first _ (SpellsType.int first is) = first_is starts_type first [] k.Int is refl
+type-first _ (SpellsType.long first is) = first_is starts_type first [] k.Long is refl
+type-first _ (SpellsType.long_int first second is_long is_int) = first_is starts_type first (second ∷ []) k.Long is_long refl
+type-first _ (SpellsType.long_long first second is_long is_again) = first_is starts_type first
+    (second ∷ []) k.Long is_long refl
+type-first _ (SpellsType.long_long_int first second third is_long is_again is_int) =
+    first_is starts_type first (second ∷ third ∷ []) k.Long is_long refl
 
 pub type-no_bracket : (kind : Kind) → starts_type kind ≡ true → is_sign sign.CloseRound kind ≡ false
 unfolding starts_type
@@ -259,35 +260,39 @@ simple-starts _ is = absurd cc
 
 pub mark-first : (number : ℕ) (us : List Token) → SpellsMark number us → FirstIs starts_statement us
 unfolding starts_statement
-mark-first _ _ (SpellsMark.mark number word opening constant closing a b c d) =
-    first_is starts_statement word (opening ∷ constant ∷ closing ∷ []) k.MarkWord a refl
+mark-first _ _ (SpellsMark.mark number word opening constant closing is_mark opens is_constant closes) =
+    first_is starts_statement word (opening ∷ constant ∷ closing ∷ []) k.MarkWord is_mark refl
 
 pub statement-first : (s : Statement) (us : List Token) → SpellsStatement s us → FirstIs starts_statement us
 unfolding starts_statement
-statement-first _ _ (SpellsStatement.block entries opening closing us a b spells) =
-    first_is starts_statement opening (us ++ closing ∷ []) k.OpenCurly a refl
-statement-first _ _ (SpellsStatement.empty semicolon a) = first_is starts_statement semicolon [] k.Semicolon a refl
-statement-first s _ (SpellsStatement.simple _ semicolon us a spells) =
+statement-first _ _ (SpellsStatement.block entries opening closing us is closes spells) =
+    first_is starts_statement opening (us ++ closing ∷ []) k.OpenCurly is refl
+statement-first _ _ (SpellsStatement.empty semicolon is) = first_is starts_statement semicolon [] k.Semicolon is refl
+statement-first s _ (SpellsStatement.simple _ semicolon us ends spells) =
     let at = simple-first s us spells in
     FirstIs-append starts_statement us (semicolon ∷ [])
     (record { first = at.first; others = at.others; parts = at.parts; is = simple-starts at.first.kind at.is })
-statement-first _ _ (SpellsStatement.if_alone cond first word opening closing us vs a b c e s) =
-    first_is starts_statement word (opening ∷ (us ++ closing ∷ vs)) k.If a refl
-statement-first _ _ (SpellsStatement.if_else cond first second word opening closing other us vs ws a b c d e s shut t) =
-    first_is starts_statement word (opening ∷ (us ++ closing ∷ (vs ++ other ∷ ws))) k.If a refl
-statement-first _ _ (SpellsStatement.while cond body word opening closing us vs a b c e s) =
-    first_is starts_statement word (opening ∷ (us ++ closing ∷ vs)) k.While a refl
-statement-first _ _ (SpellsStatement.do_while body cond first word opening closing semicolon us vs a b c d e s t) =
-    first_is starts_statement first (us ++ word ∷ opening ∷ (vs ++ closing ∷ semicolon ∷ [])) k.Do a refl
-statement-first _ _ (SpellsStatement.for start cond step body word opening first second closing us vs ws xs a b c d e p q r s) =
-    first_is starts_statement word (opening ∷ (us ++ first ∷ (vs ++ second ∷ (ws ++ closing ∷ xs)))) k.For a refl
-statement-first _ _ (SpellsStatement.break word semicolon a b) =
-    first_is starts_statement word (semicolon ∷ []) k.Break a refl
-statement-first _ _ (SpellsStatement.continue word semicolon a b) =
-    first_is starts_statement word (semicolon ∷ []) k.Continue a refl
-statement-first _ _ (SpellsStatement.return e word semicolon us a b spells) =
-    first_is starts_statement word (us ++ semicolon ∷ []) k.Return a refl
-statement-first _ _ (SpellsStatement.mark number semicolon us a spells) =
+statement-first _ _ (SpellsStatement.if_alone cond first word opening closing us vs is opens closes spells_cond
+    spells_first) =
+    first_is starts_statement word (opening ∷ (us ++ closing ∷ vs)) k.If is refl
+statement-first _ _ (SpellsStatement.if_else cond first second word opening closing other us vs ws is opens closes
+    is_else spells_cond spells_first shut spells_second) =
+    first_is starts_statement word (opening ∷ (us ++ closing ∷ (vs ++ other ∷ ws))) k.If is refl
+statement-first _ _ (SpellsStatement.while cond body word opening closing us vs is opens closes spells_cond spells_body) =
+    first_is starts_statement word (opening ∷ (us ++ closing ∷ vs)) k.While is refl
+statement-first _ _ (SpellsStatement.do_while body cond first word opening closing semicolon us vs is is_while opens
+    closes ends spells_body spells_cond) =
+    first_is starts_statement first (us ++ word ∷ opening ∷ (vs ++ closing ∷ semicolon ∷ [])) k.Do is refl
+statement-first _ _ (SpellsStatement.for start cond step body word opening first second closing us vs ws xs is opens
+    ends_first ends_second closes spells_start spells_cond spells_step spells_body) =
+    first_is starts_statement word (opening ∷ (us ++ first ∷ (vs ++ second ∷ (ws ++ closing ∷ xs)))) k.For is refl
+statement-first _ _ (SpellsStatement.break word semicolon is ends) =
+    first_is starts_statement word (semicolon ∷ []) k.Break is refl
+statement-first _ _ (SpellsStatement.continue word semicolon is ends) =
+    first_is starts_statement word (semicolon ∷ []) k.Continue is refl
+statement-first _ _ (SpellsStatement.return e word semicolon us is ends spells) =
+    first_is starts_statement word (us ++ semicolon ∷ []) k.Return is refl
+statement-first _ _ (SpellsStatement.mark number semicolon us ends spells) =
     FirstIs-append starts_statement us (semicolon ∷ []) (mark-first number us spells)
 
 pub statement-no_else : (kind : Kind) → starts_statement kind ≡ true → is_sign sign.Else kind ≡ false

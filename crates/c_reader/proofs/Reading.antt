@@ -97,17 +97,21 @@ pub record SignFirst (s : Sign) (tokens others : List Token) : Type 0 where
 found-by : (s : Sign) (first : Token) (after others : List Token) (test : Bool) → is_sign s first.kind ≡ test
     → behind_sign s (first ∷ after) ≡ Some others → SignFirst s (first ∷ after) others
 found-by s first after others true is found =
-    record { token = first; parts = ap (λ l. first ∷ l) (let same : Some after ≡ Some others = sym (behind_sign-here s first after (HasSign-from_test s first.kind is)) ∙ found in cc); has = HasSign-from_test s first.kind is }
-found-by s first after others false is found = absurd (let e = behind_sign-other s first after is in cc)
+    let has = HasSign-from_test s first.kind is in
+    let same : after ≡ others = let here = behind_sign-here s first after has in cc in
+    record { token = first; parts = ap (λ (l : List Token). first ∷ l) same; has = has }
+found-by s first after others false is found = absurd (let none = behind_sign-other s first after is in cc)
 
-pub behind_sign-found : (s : Sign) (tokens others : List Token) → behind_sign s tokens ≡ Some others → SignFirst s tokens others
+pub behind_sign-found : (s : Sign) (tokens others : List Token) → behind_sign s tokens ≡ Some others
+    → SignFirst s tokens others
 behind_sign-found s [] others found = absurd cc
 behind_sign-found s (first ∷ after) others found = found-by s first after others (is_sign s first.kind) refl found
 
 -- ---- what stands at the front
 
 -- The tokens begin with those that spell this, and these follow.
-pub record Front {X : Type 0} (Spells : X → List Token → Type 0) (tokens : List Token) (x : X) (after : List Token) : Type 0 where
+pub record Front {X : Type 0} (Spells : X → List Token → Type 0) (tokens : List Token) (x : X)
+    (after : List Token) : Type 0 where
   pub front : List Token
   pub parts : tokens ≡ front ++ after
   pub spells : Spells x front
@@ -146,15 +150,16 @@ pub append_parts : (us vs after tokens others : List Token) → tokens ≡ us ++
 append_parts us vs after tokens others is on =
     is ∙ ap (λ (l : List Token). us ++ l) on ∙ sym (append_assoc us vs after)
 
+begins-by : (s : Sign) (first : Token) (others : List Token) (test : Bool) → is_sign s first.kind ≡ test
+    → behind_sign s (first ∷ others) ≡ None → is_sign s first.kind ≡ false
+begins-by s first others true test is =
+    absurd (let here = behind_sign-here s first others (HasSign-from_test s first.kind test) in cc)
+begins-by s first others false test is = test
+
 -- no sign stands first where no tokens are behind it
 pub begins-none : (s : Sign) (tokens : List Token) → behind_sign s tokens ≡ None → begins s tokens ≡ false
 begins-none s [] is = refl
 begins-none s (first ∷ others) is = begins-by s first others (is_sign s first.kind) refl is
-  where
-    begins-by : (s : Sign) (first : Token) (others : List Token) (test : Bool) → is_sign s first.kind ≡ test
-        → behind_sign s (first ∷ others) ≡ None → is_sign s first.kind ≡ false
-    begins-by s first others true test is = absurd (let e : None ≡ Some others = sym is ∙ behind_sign-here s first others (HasSign-from_test s first.kind test) in cc)
-    begins-by s first others false test is = test
 
 -- a sign that stands first
 pub begins-here : (s : Sign) (tokens others : List Token) → SignFirst s tokens others → begins s tokens ≡ true

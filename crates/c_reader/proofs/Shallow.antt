@@ -9,8 +9,8 @@ use Rattle.c_reader.specs.Faults.{Refuses}
 use Rattle.c_reader.specs.Expressions.{SpellsExpression, EndsExpression, expression_depth}
 use Rattle.c_reader.specs.ReadExpressions.{◌>>=◌, expression_at, IsDeeper}
 use Rattle.c_reader.specs.ReadDeclarations.{Reads, shallow_at}
-use Rattle.c_reader.proofs.Soundness.{expression_sound}
-use Rattle.c_reader.proofs.Completeness.{expression_complete}
+use Rattle.c_reader.proofs.ExpressionSoundness.{expression_sound}
+use Rattle.c_reader.proofs.ExpressionCompleteness.{expression_complete}
 use Rattle.c_reader.proofs.Reading.{step, stepped, given, Front}
 
 deeper : (room depth : ℕ) → room < depth → nat_le depth room ≡ false
@@ -59,8 +59,8 @@ shallow-sound room tokens read found =
     let kept = tested room read_first.0 read (nat_le (expression_depth read_first.0.0) room) refl read_first.2 in
     rw (sym kept.0) (record { at = expression-front tokens read_first.0 read_first.1; within = kept.1 })
 
-pub shallow-behind : (room : ℕ) (e : RawExpression) (us after : List Token) → SpellsExpression e us
+pub shallow-complete : (room : ℕ) (e : RawExpression) (us after : List Token) → SpellsExpression e us
     → EndsExpression after → expression_depth e ≤ room → shallow_at room (us ++ after) ≡ Some (e, after)
 unfolding shallow_at
-shallow-behind room e us after spells ends less =
+shallow-complete room e us after spells ends less =
     step _ (e, after) (expression_complete e us after spells ends) (rw (low room (expression_depth e) less) refl)

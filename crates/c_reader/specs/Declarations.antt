@@ -13,14 +13,14 @@ Statement = RawStatements → RawStatements
 
 -- The tokens spell these things one after the other, with a comma between two.
 pub data SpellsListed {X : Type 0} (Spells : X → List Token → Type 0) : List X → List Token → Type 0 where
-  last : (x : X) (us : List Token) → Spells x us → SpellsListed Spells (x ∷ []) us
-  more : (x : X) (others : List X) (comma : Token) (us vs : List Token) → comma.kind ≡ k.Comma
-      → Spells x us → SpellsListed Spells others vs → SpellsListed Spells (x ∷ others) (us ++ comma ∷ vs)
+  last : (x : X) (tokens : List Token) → Spells x tokens → SpellsListed Spells (x ∷ []) tokens
+  more : (x : X) (others : List X) (comma : Token) (before behind : List Token) → comma.kind ≡ k.Comma
+      → Spells x before → SpellsListed Spells others behind → SpellsListed Spells (x ∷ others) (before ++ comma ∷ behind)
 
 -- The tokens spell the thing, or there are none where it is left out.
 pub data SpellsOptional {X : Type 0} (Spells : X → List Token → Type 0) : Option X → List Token → Type 0 where
   nothing : SpellsOptional Spells None []
-  something : (x : X) (us : List Token) → Spells x us → SpellsOptional Spells (Some x) us
+  something : (x : X) (tokens : List Token) → Spells x tokens → SpellsOptional Spells (Some x) tokens
 
 -- The tokens spell a type (6.7.2).
 pub data SpellsType : List Token → Type 0 where
@@ -38,26 +38,29 @@ pub data SpellsName : Var → List Token → Type 0 where
 
 -- `=` stands before an initialiser (6.7.9).
 pub data SpellsInitialiser : RawExpression → List Token → Type 0 where
-  initialiser : (e : RawExpression) (sign : Token) (us : List Token) → sign.kind ≡ k.Assign → SpellsExpression e us
-      → SpellsInitialiser e (sign ∷ us)
+  initialiser : (e : RawExpression) (sign : Token) (value : List Token) → sign.kind ≡ k.Assign
+      → SpellsExpression e value → SpellsInitialiser e (sign ∷ value)
 
 -- The tokens spell a declarator (6.7.6): a name, and its initialiser, if it has one.
 pub data SpellsDeclarator : RawDeclared → List Token → Type 0 where
-  declarator : (var : Var) (value : Option RawExpression) (us vs : List Token) → SpellsName var us
-      → SpellsOptional SpellsInitialiser value vs
-      → SpellsDeclarator (record { var = var; initialiser = value }) (us ++ vs)
+  declarator : (var : Var) (value : Option RawExpression) (name behind : List Token) → SpellsName var name
+      → SpellsOptional SpellsInitialiser value behind
+      → SpellsDeclarator (record { var = var; initialiser = value }) (name ++ behind)
 
 -- The tokens spell a declaration, without the `;` behind it (6.7).
 pub data SpellsDeclaration : Statement → List Token → Type 0 where
-  declaration : (declarators : List RawDeclared) (us vs : List Token) → SpellsType us
-      → SpellsListed SpellsDeclarator declarators vs → SpellsDeclaration (tree.Declare declarators) (us ++ vs)
+  declaration : (declarators : List RawDeclared) (type behind : List Token) → SpellsType type
+      → SpellsListed SpellsDeclarator declarators behind
+      → SpellsDeclaration (tree.Declare declarators) (type ++ behind)
 
 -- The tokens spell a parameter: a type and a name.
 pub data SpellsParameter : Var → List Token → Type 0 where
-  parameter : (var : Var) (us vs : List Token) → SpellsType us → SpellsName var vs → SpellsParameter var (us ++ vs)
+  parameter : (var : Var) (type name : List Token) → SpellsType type → SpellsName var name
+      → SpellsParameter var (type ++ name)
 
 -- The tokens spell all parameters: none, `void`, or parameters with commas between them.
 pub data SpellsParameters : List Var → List Token → Type 0 where
   nothing : SpellsParameters [] []
   void : (word : Token) → word.kind ≡ k.Void → SpellsParameters [] (word ∷ [])
-  listed : (vars : List Var) (us : List Token) → SpellsListed SpellsParameter vars us → SpellsParameters vars us
+  listed : (vars : List Var) (tokens : List Token) → SpellsListed SpellsParameter vars tokens
+      → SpellsParameters vars tokens

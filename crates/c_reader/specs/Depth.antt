@@ -53,27 +53,27 @@ abbrev pub unit_depth : List RawFunction → ℕ
 unit_depth [] = 0
 unit_depth (first ∷ others) = max (statements_depth first.body + 1) (unit_depth others)
 
--- whether the token is `(` or `{`
-abbrev pub is_opening : Token → Bool
-is_opening token = opens token.kind
-  where
-    opens : Kind → Bool
-    opens k.OpenRound = true
-    opens k.OpenCurly = true
-    opens _ = false
+-- whether the kind is `(` or `{`
+abbrev pub opens : Kind → Bool
+opens k.OpenRound = true
+opens k.OpenCurly = true
+opens _ = false
 
--- whether the token is `)` or `}`
+-- whether the kind is `)` or `}`
+abbrev pub closes : Kind → Bool
+closes k.CloseRound = true
+closes k.CloseCurly = true
+closes _ = false
+
+abbrev pub is_opening_bracket : Token → Bool
+is_opening_bracket token = opens token.kind
+
 abbrev pub is_closing_bracket : Token → Bool
 is_closing_bracket token = closes token.kind
-  where
-    closes : Kind → Bool
-    closes k.CloseRound = true
-    closes k.CloseCurly = true
-    closes _ = false
 
 -- In the first tokens, this many, the openings exceed the closings by more than 200.
 abbrev pub IsDeepAt : List Token → ℕ → Type 0
-IsDeepAt tokens count = count_by is_closing_bracket (take count tokens) + 200 < count_by is_opening (take count tokens)
+IsDeepAt tokens count = count_by is_closing_bracket (take count tokens) + 200 < count_by is_opening_bracket (take count tokens)
 
 -- In some prefix of the tokens the openings `(` and `{` exceed the closings `)` and `}` by more than 200.
 abbrev pub IsDeep : List Token → Type 0

@@ -15,28 +15,32 @@ AreQualifiers (first ∷ others) = ((first.kind ≡ k.Extern) ⊎ (first.kind �
 
 -- The tokens spell a function definition (6.9.1).
 pub data SpellsFunction : RawFunction → List Token → Type 0 where
-  function : (var : Var) (params : List Var) (entries : List Statement) (opening closing opening_curly closing_curly : Token)
-      (qualifiers us vs ws xs : List Token) → opening.kind ≡ k.OpenRound → closing.kind ≡ k.CloseRound
-      → opening_curly.kind ≡ k.OpenCurly → closing_curly.kind ≡ k.CloseCurly → AreQualifiers qualifiers
-      → SpellsType us → SpellsName var vs → SpellsParameters params ws → SpellsEntries entries xs
+  function : (var : Var) (params : List Var) (entries : List Statement)
+      (opening closing opening_curly closing_curly : Token) (qualifiers type name parameters inside : List Token)
+      → opening.kind ≡ k.OpenRound → closing.kind ≡ k.CloseRound → opening_curly.kind ≡ k.OpenCurly
+      → closing_curly.kind ≡ k.CloseCurly → AreQualifiers qualifiers → SpellsType type → SpellsName var name
+      → SpellsParameters params parameters → SpellsEntries entries inside
       → SpellsFunction (record { name = var.name; line = var.line; params = params; body = raw_joined entries })
-      (qualifiers ++ (us ++ (vs ++ opening ∷ (ws ++ closing ∷ opening_curly ∷ (xs ++ closing_curly ∷ [])))))
+      (qualifiers ++ (type
+      ++ (name ++ opening ∷ (parameters ++ closing ∷ opening_curly ∷ (inside ++ closing_curly ∷ [])))))
 
 -- The tokens spell a declaration of `__mark`, whose parameter may have a name (6.7.6.3).
 pub data SpellsMarkDeclaration : List Token → Type 0 where
-  mark_declaration : (var : Option Var) (word opening closing semicolon : Token) (qualifiers us vs ws : List Token)
+  mark_declaration : (var : Option Var) (word opening closing semicolon : Token)
+      (qualifiers type parameter_type name : List Token)
       → word.kind ≡ k.MarkWord → opening.kind ≡ k.OpenRound → closing.kind ≡ k.CloseRound
-      → semicolon.kind ≡ k.Semicolon → AreQualifiers qualifiers → SpellsType us → SpellsType vs
-      → SpellsOptional SpellsName var ws
-      → SpellsMarkDeclaration (qualifiers ++ (us ++ word ∷ opening ∷ (vs ++ (ws ++ closing ∷ semicolon ∷ []))))
+      → semicolon.kind ≡ k.Semicolon → AreQualifiers qualifiers → SpellsType type → SpellsType parameter_type
+      → SpellsOptional SpellsName var name
+      → SpellsMarkDeclaration
+      (qualifiers ++ (type ++ word ∷ opening ∷ (parameter_type ++ (name ++ closing ∷ semicolon ∷ []))))
 
 -- The tokens spell the functions of a file, in its order. A declaration of `__mark` leaves nothing in the tree.
 pub data SpellsUnit : List Token → List RawFunction → Type 0 where
   none : SpellsUnit [] []
-  function : (func : RawFunction) (others : List RawFunction) (us vs : List Token) → SpellsFunction func us
-      → SpellsUnit vs others → SpellsUnit (us ++ vs) (func ∷ others)
-  mark_declaration : (others : List RawFunction) (us vs : List Token) → SpellsMarkDeclaration us
-      → SpellsUnit vs others → SpellsUnit (us ++ vs) others
+  function : (func : RawFunction) (others : List RawFunction) (item behind : List Token) → SpellsFunction func item
+      → SpellsUnit behind others → SpellsUnit (item ++ behind) (func ∷ others)
+  mark_declaration : (others : List RawFunction) (item behind : List Token) → SpellsMarkDeclaration item
+      → SpellsUnit behind others → SpellsUnit (item ++ behind) others
 
 -- Two files that one list of tokens spells are equal.
 abbrev pub HasOneTree : Type 0

@@ -1,6 +1,6 @@
 //! How deep the brackets of tokens nest.
 ghost use Rattle.std.specs.Prelude.{◌≡◌, ◌↔◌, IsTrue};
-ghost use Rattle.c_reader.specs.Depth.{is_opening, is_closing_bracket, IsDeep};
+ghost use Rattle.c_reader.specs.Depth.{is_opening_bracket, is_closing_bracket, IsDeep};
 
 use c_tokens::{Kind, Token};
 
@@ -8,7 +8,7 @@ use c_tokens::{Kind, Token};
 const MOST_OPEN: usize = 200;
 
 fn is_opening(token: &Token) -> bool
-    ensures { result ≡ is_opening token.now }
+    ensures { result ≡ is_opening_bracket token.now }
 {
     matches!(token.kind, Kind::OpenRound | Kind::OpenCurly)
 }

@@ -2,17 +2,13 @@
 mod expressions;
 mod units;
 
-use c_tokens::{Token, TokenFault, tokens};
+use c_tokens::{Token, tokens};
 use std::alloc::{AllocError, Global};
 
-// The tokens of a text, or none where it has a faulty place.
+// The tokens of a text. One with a faulty place ends its test.
 fn tokens_of(alloc: Global, text: &str) -> Result<Vec<Token>, AllocError> {
     if text.len() > 65536 {
-        return Ok(Vec::new(alloc));
+        return Err(AllocError);
     }
-    match tokens(alloc, text.as_bytes()) {
-        Ok(tokens) => Ok(tokens),
-        Err(TokenFault::Memory) => Err(AllocError),
-        Err(_) => Ok(Vec::new(alloc)),
-    }
+    tokens(alloc, text.as_bytes()).map_err(|_| AllocError)
 }

@@ -162,7 +162,7 @@ fn files_are_read_as_in_c(rt: HostRuntime) -> Result<(), Fail> {
         ("int f() { int x; }", "f@1() {var x@1;}"),
         (
             "int f() { int x = 1, y,\nz = x + y; }",
-            "f@1() {var x@1 = 1, y@1, z@2 = (x@2 + y@2);}",
+            "f@1() {var x@1 = 1, y@1, z@2 = (x@2 +@2 y@2);}",
         ),
         // Assignments.
         ("int f() { x = y; }", "f@1() {x@1 = y;}"),
@@ -319,7 +319,6 @@ fn other_files_are_refused(rt: HostRuntime) -> Result<(), Fail> {
         "int f() { ++x++; }",
         "int f() { ++x = 1; }",
         "int f() { x++ ++; }",
-        "int f() { x &= 1; }",
         "int f() { __mark = 1; }",
         // Statements.
         "int f() { return; }",
@@ -349,7 +348,6 @@ fn other_files_are_refused(rt: HostRuntime) -> Result<(), Fail> {
         "int f() { __mark(1) & a; }",
         "int f() { __mark 1; }",
         "int f() { while (__mark(1)) ; }",
-        "int f() { while (__mark(1) | a) ; }",
         "int f() { while (__mark(1) & ) ; }",
         "int f() { while (a & __mark(1)) ; }",
         "int f() { while ((__mark(1) & a)) ; }",

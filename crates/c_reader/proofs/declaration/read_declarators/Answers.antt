@@ -2,8 +2,8 @@ use Rattle.std.proofs.Common.{map, [], ◌∷◌, ap, sym, ◌∙◌}
 use Rattle.std.proofs.lemmas.List.{map-append}
 use Rattle.c_ast.specs.RawView.{raw_declared_of}
 use Rattle.c_reader.specs.ReadDeclarations.{declarator_at, listed_at}
-use Rattle.c_reader.proofs.Declaring.{SpellsShallowDeclarator, declarator_at-sound}
-use Rattle.c_reader.proofs.Loops.{listed-start, listed-last, listed-more, listed-shorter}
+use Rattle.c_reader.proofs.DeclarationSoundness.{SpellsShallowDeclarator, declarator_at-sound}
+use Rattle.c_reader.proofs.ListLoops.{listed-start, listed-last, listed-more, listed-shorter}
 use Rattle.c_reader.proofs.declaration.read_declarators.Goals as goal
 
 pub loop-made-init : goal.loop-made-init

@@ -1,7 +1,7 @@
 use Rattle.std.proofs.Common.{map, length}
 use Rattle.c_ast.specs.RawView.{raw_declared_of}
 use Rattle.c_reader.specs.ReadDeclarations.{declarator_at, listed_at}
-use Rattle.c_reader.proofs.Loops.{ListedSoFar}
+use Rattle.c_reader.proofs.ListLoops.{ListedSoFar}
 use Rattle.c_reader.proofs.declaration.read_declarators.Given as goal
 
 -- Behind the declarators that are made so far come the others.

@@ -1,8 +1,8 @@
 use Rattle.std.proofs.Common.{sym}
 use Rattle.c_reader.specs.Declarations.{SpellsParameter}
 use Rattle.c_reader.specs.ReadDeclarations.{parameter_at}
-use Rattle.c_reader.proofs.Declaring.{parameter_at-sound}
-use Rattle.c_reader.proofs.Loops.{listed-start, listed-more, listed-shorter}
+use Rattle.c_reader.proofs.DeclarationSoundness.{parameter_at-sound}
+use Rattle.c_reader.proofs.ListLoops.{listed-start, listed-more, listed-shorter}
 use Rattle.c_reader.proofs.declaration.read_listed.Goals as goal
 
 pub loop-made-init : goal.loop-made-init

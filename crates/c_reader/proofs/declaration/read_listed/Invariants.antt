@@ -1,6 +1,6 @@
 use Rattle.std.proofs.Common.{length}
 use Rattle.c_reader.specs.ReadDeclarations.{parameter_at, listed_at}
-use Rattle.c_reader.proofs.Loops.{ListedSoFar}
+use Rattle.c_reader.proofs.ListLoops.{ListedSoFar}
 use Rattle.c_reader.proofs.declaration.read_listed.Given as goal
 
 -- Behind the parameters that are made so far come the others.

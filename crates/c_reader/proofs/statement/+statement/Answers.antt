@@ -2,9 +2,9 @@ use Rattle.std.proofs.Common.{map, [], ◌∷◌, ap, sym, ◌∙◌}
 use Rattle.std.proofs.lemmas.List.{map-append}
 use Rattle.c_ast.specs.RawView.{raw_put_in_front}
 use Rattle.c_reader.specs.ReadStatements.{entry_at, entries_at, statement_at}
-use Rattle.c_reader.proofs.Blocks.{entry-shorter}
-use Rattle.c_reader.proofs.Statements.{statement_at-sound}
-use Rattle.c_reader.proofs.Loops.{entries-start, entries-read}
+use Rattle.c_reader.proofs.BlockSoundness.{entry-shorter}
+use Rattle.c_reader.proofs.StatementSoundness.{statement_at-sound}
+use Rattle.c_reader.proofs.ListLoops.{entries-start, entries-read}
 use Rattle.c_reader.proofs.statement.+statement.Goals as goal
 
 pub read_entries-loop-after-init : goal.read_entries-loop-after-init

@@ -1,7 +1,7 @@
 use Rattle.std.proofs.Common.{◌+◌, ◌*◌, map, length}
 use Rattle.c_ast.specs.RawView.{raw_put_in_front}
 use Rattle.c_reader.specs.ReadStatements.{entry_at, entries_at, statement_at}
-use Rattle.c_reader.proofs.Loops.{EntriesSoFar}
+use Rattle.c_reader.proofs.ListLoops.{EntriesSoFar}
 use Rattle.c_reader.proofs.statement.+statement.Given as goal
 
 abbrev pub decreases-read_statement : goal.decreases-read_statement

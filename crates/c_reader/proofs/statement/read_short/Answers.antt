@@ -5,7 +5,7 @@ use Rattle.c_tokens.specs.declared.kind.Kind.TheVariants as k
 use Rattle.c_reader.specs.Declarations.{Statement}
 use Rattle.c_reader.specs.ReadStatements.{ended}
 use Rattle.c_reader.proofs.Reading.{step}
-use Rattle.c_reader.proofs.Short.{front-Break, front-Continue, front-Return, front-Mark, short-is}
+use Rattle.c_reader.proofs.ShortStatements.{front-Break, front-Continue, front-Return, front-Mark, short-is}
 use Rattle.c_reader.proofs.statement.read_short.Goals as goal
 
 pub returns-in-Break : goal.returns-in-Break

@@ -5,8 +5,8 @@ use Rattle.std.proofs.lemmas.List.{map-append}
 use Rattle.c_ast.specs.RawTree.{RawFunction}
 use Rattle.c_ast.specs.RawView.{raw_function_of}
 use Rattle.c_reader.specs.ReadUnits.{unit_at}
-use Rattle.c_reader.proofs.Files.{item_at-shorter}
-use Rattle.c_reader.proofs.ItemLoop.{items-start, items-read, map-option}
+use Rattle.c_reader.proofs.UnitSoundness.{item_at-shorter}
+use Rattle.c_reader.proofs.UnitLoop.{items-start, items-read, map-option}
 use Rattle.c_reader.proofs.unit.read_items.Goals as goal
 
 pub loop-others-init : goal.loop-others-init

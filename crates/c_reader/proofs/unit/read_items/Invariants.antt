@@ -1,7 +1,7 @@
 use Rattle.std.proofs.Common.{map, length}
 use Rattle.c_ast.specs.RawView.{raw_function_of}
 use Rattle.c_reader.specs.ReadUnits.{unit_at}
-use Rattle.c_reader.proofs.ItemLoop.{ItemsSoFar}
+use Rattle.c_reader.proofs.UnitLoop.{ItemsSoFar}
 use Rattle.c_reader.proofs.unit.read_items.Given as goal
 
 -- Behind the functions that are made so far come the others.

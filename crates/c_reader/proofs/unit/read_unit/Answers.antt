@@ -1,7 +1,6 @@
 use Rattle.std.proofs.lemmas.Result.{err_from_is_err_and}
-use Rattle.c_reader.proofs.FilesBack.{refused-deep}
-use Rattle.c_reader.proofs.Files.{unit_at-sound}
-use Rattle.c_reader.proofs.Shaped.{shaped_unit}
+use Rattle.c_reader.proofs.UnitCompleteness.{refused-deep}
+use Rattle.c_reader.proofs.UnitSoundness.{unit_at-sound}
 use Rattle.c_reader.proofs.unit.read_unit.Goals as goal
 
 pub returns-in_err-funcs-clause-none : goal.returns-in_err-funcs-clause-none

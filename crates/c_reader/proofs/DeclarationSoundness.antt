@@ -113,7 +113,9 @@ optional-by Spells Whole s item tokens (Some others) read sound make is found =
     let x = stepped (item others) _ read found in
     let first = behind_sign-found s tokens others is in
     let at = sound others x.0 x.1 in
-    subst (λ r. Front (SpellsOptional Whole) tokens r.0 r.1) (given x.2) (in_front Spells (SpellsOptional Whole) x.0.0 (Some x.0.0) s tokens others x.0.1 first at (λ token us has spells. spelled.SpellsOptional.something x.0.0 (token ∷ us) (make x.0.0 token us has spells)))
+    subst (λ r. Front (SpellsOptional Whole) tokens r.0 r.1) (given x.2) (in_front Spells
+    (SpellsOptional Whole) x.0.0 (Some x.0.0) s tokens others x.0.1 first at
+    (λ token us has spells. spelled.SpellsOptional.something x.0.0 (token ∷ us) (make x.0.0 token us has spells)))
 
 -- what stands behind a sign, if the sign stands there
 pub optional-sound : {X : Type 0} (Spells Whole : X → List Token → Type 0) (s : Sign) (item : List Token → Reads X)
@@ -182,8 +184,8 @@ SpellsShallow room e us = SpellsExpression e us × (expression_depth e ≤ room)
 
 pub shallow_at-sound : (room : ℕ) → IsSound (SpellsShallow room) (shallow_at room)
 shallow_at-sound room tokens read found =
-    let e = shallow-sound room tokens read found in
-    record { front = e.at.front; parts = e.at.parts; spells = (e.at.spells, e.within) }
+    let value = shallow-sound room tokens read found in
+    record { front = value.at.front; parts = value.at.parts; spells = (value.at.spells, value.within) }
 
 -- The tokens spell the initialiser, and it is shallow.
 abbrev SpellsShallowInitialiser : ℕ → RawExpression → List Token → Type 0
@@ -306,7 +308,8 @@ parameters-by tokens None read is found =
     })
 parameters-by tokens (Some others) read is found =
     subst (λ r. ParametersFirst tokens r.0 r.1) (given found)
-    (no-parameters tokens others (behind_sign-found sign.CloseRound (skipped sign.Void tokens) others is) (skip sign.Void tokens))
+    (no-parameters tokens others (behind_sign-found sign.CloseRound (skipped sign.Void tokens) others is)
+    (skip sign.Void tokens))
 
 pub parameters_at-sound : (tokens : List Token) (read : List Var × List Token) → parameters_at tokens ≡ Some read
     → ParametersFirst tokens read.0 read.1

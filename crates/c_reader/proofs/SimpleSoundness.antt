@@ -20,7 +20,7 @@ use Rattle.c_reader.specs.ReadStatements.{step_at, update_by, change_at, simple_
 use Rattle.c_reader.proofs.Reading.{stepped, behind_sign-found, HasSign-from_test, Front, IsSound, given, append_parts, cons_parts}
 use Rattle.c_reader.proofs.Shallow.{shallow-sound}
 use Rattle.c_reader.proofs.Depths.{depth-positive}
-use Rattle.c_reader.proofs.Declaring.{SpellsWithin, name_at-sound, declaration_at-sound}
+use Rattle.c_reader.proofs.DeclarationSoundness.{SpellsWithin, name_at-sound, declaration_at-sound}
 
 -- ---- assignments
 
@@ -69,13 +69,13 @@ updated-sound : (room : ℕ) (name : List ℕ) (word first : Token) (others : Li
     → SimpleFirst (suc room) (word ∷ first ∷ others) read
 updated-sound room name word first others (Some op) step read named is_update is_step found =
     let x = stepped (shallow_at (room - 1) others) _ read found in
-    let e = shallow-sound (room - 1) others x.0 x.1 in
+    let value = shallow-sound (room - 1) others x.0 x.1 in
     subst (SimpleFirst (suc room) (word ∷ first ∷ others)) (given x.2) (record {
-      front = word ∷ first ∷ e.at.front;
-      parts = ap (λ (l : List Token). word ∷ first ∷ l) e.at.parts;
+      front = word ∷ first ∷ value.at.front;
+      parts = ap (λ (l : List Token). word ∷ first ∷ l) value.at.parts;
       spells = (
-        spelled.SpellsSimple.update name op x.0.0 word first e.at.front named is_update e.at.spells,
-        omega (arith, e.within, depth-positive x.0.0),
+        spelled.SpellsSimple.update name op x.0.0 word first value.at.front named is_update value.at.spells,
+        omega (arith, value.within, depth-positive x.0.0),
       );
     })
 updated-sound room name word first others None (Some op) read named is_update is_step found =
@@ -94,14 +94,15 @@ assigned-sound : (room : ℕ) (name : List ℕ) (word first : Token) (others : L
     → SimpleFirst (suc room) (word ∷ first ∷ others) read
 assigned-sound room name word first others true read named is found =
     let x = stepped (shallow_at room others) _ read found in
-    let e = shallow-sound room others x.0 x.1 in
+    let value = shallow-sound room others x.0 x.1 in
     subst (SimpleFirst (suc room) (word ∷ first ∷ others)) (given x.2) (record {
-      front = word ∷ first ∷ e.at.front;
-      parts = ap (λ (l : List Token). word ∷ first ∷ l) e.at.parts;
+      front = word ∷ first ∷ value.at.front;
+      parts = ap (λ (l : List Token). word ∷ first ∷ l) value.at.parts;
       spells = (
-        spelled.SpellsSimple.assignment name x.0.0 word first e.at.front named (HasSign-from_test sign.Assign first.kind is)
-            e.at.spells,
-        omega (arith, e.within),
+        spelled.SpellsSimple.assignment name x.0.0 word first value.at.front named
+            (HasSign-from_test sign.Assign first.kind is)
+            value.at.spells,
+        omega (arith, value.within),
       );
     })
 assigned-sound room name word first others false read named is found =
@@ -174,11 +175,11 @@ condition-by : (room : ℕ) (tokens : List Token) (behind : Option (List Token))
     → Front (SpellsShallowCondition room) tokens read.0 read.1
 condition-by room tokens None read is found =
     let x = stepped (shallow_at room tokens) _ read found in
-    let e = shallow-sound room tokens x.0 x.1 in
+    let value = shallow-sound room tokens x.0 x.1 in
     subst (λ r. Front (SpellsShallowCondition room) tokens r.0 r.1) (given x.2) (record {
-      front = e.at.front;
-      parts = e.at.parts;
-      spells = (spelled.SpellsCondition.unmarked x.0.0 e.at.front e.at.spells, e.within);
+      front = value.at.front;
+      parts = value.at.parts;
+      spells = (spelled.SpellsCondition.unmarked x.0.0 value.at.front value.at.spells, value.within);
     })
 condition-by room tokens (Some others) read is found =
     let x = stepped (mark_at others) _ read found in
@@ -187,14 +188,15 @@ condition-by room tokens (Some others) read is found =
     let word = behind_sign-found sign.MarkWord tokens others is in
     let mark = mark_at-sound word.token others x.0 word.has x.1 in
     let joint = behind_sign-found sign.Ampersand x.0.1 after.0 after.1 in
-    let e = shallow-sound room after.0 y.0 y.1 in
+    let value = shallow-sound room after.0 y.0 y.1 in
     subst (λ r. Front (SpellsShallowCondition room) tokens r.0 r.1) (given y.2) (record {
-      front = mark.front ++ joint.token ∷ e.at.front;
-      parts = append_parts mark.front (joint.token ∷ e.at.front) y.0.1 tokens x.0.1 (word.parts ∙ mark.parts)
-          (cons_parts joint.token e.at.front y.0.1 x.0.1 after.0 joint.parts e.at.parts);
+      front = mark.front ++ joint.token ∷ value.at.front;
+      parts = append_parts mark.front (joint.token ∷ value.at.front) y.0.1 tokens x.0.1 (word.parts ∙ mark.parts)
+          (cons_parts joint.token value.at.front y.0.1 x.0.1 after.0 joint.parts value.at.parts);
       spells = (
-        spelled.SpellsCondition.marked x.0.0 y.0.0 joint.token mark.front e.at.front mark.spells joint.has e.at.spells,
-        e.within,
+        spelled.SpellsCondition.marked x.0.0 y.0.0 joint.token mark.front value.at.front mark.spells joint.has
+            value.at.spells,
+        value.within,
       );
     })
 
@@ -208,10 +210,25 @@ start-by : (room : ℕ) (tokens : List Token) (test : Bool) (read : Statement ×
     → Front (SpellsWithin spelled.SpellsStart room) tokens read.0 read.1
 start-by room tokens true read found =
     let at = declaration_at-sound room tokens read found in
-    record { front = at.front; parts = at.parts; spells = (spelled.SpellsStart.declaration read.0 at.front at.spells.0, at.spells.1) }
+    record {
+      front = at.front;
+      parts = at.parts;
+      spells = (
+        spelled.SpellsStart.declaration read.0 at.front
+            at.spells.0,
+        at.spells.1,
+      );
+    }
 start-by room tokens false read found =
     let at = simple_at-sound room tokens read found in
-    record { front = at.front; parts = at.parts; spells = (spelled.SpellsStart.simple read.0 at.front at.spells.0, at.spells.1) }
+    record {
+      front = at.front;
+      parts = at.parts;
+      spells = (
+        spelled.SpellsStart.simple read.0 at.front at.spells.0,
+        at.spells.1,
+      );
+    }
 
 pub start_at-sound : (room : ℕ) → IsSound (SpellsWithin spelled.SpellsStart room) (start_at room)
 unfolding start_at

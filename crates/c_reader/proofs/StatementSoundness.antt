@@ -1,23 +1,19 @@
 -- What is read as a statement is spelled so, and is no deeper than its room: all statements.
-use Rattle.std.proofs.Common.{◌≡◌, ℕ, zero, suc, ◌<◌, ◌≤◌, ◌+◌, max, Bool, true, false, List, [], ◌∷◌, ◌++◌, length, Option, Some, None, refl, sym, ap, subst, ◌∙◌, arith}
+use Rattle.std.proofs.Common.{◌≡◌, ℕ, zero, suc, false, List, [], ◌∷◌, ◌++◌, Some, refl, subst, arith}
 use Rattle.c_ast.specs.RawTree as tree
 use Rattle.c_ast.specs.RawTree.{RawStatements}
-use Rattle.c_ast.specs.RawView.{raw_joined, raw_one}
 use Rattle.c_tokens.specs.declared.kind.Kind.{Kind}
 use Rattle.c_tokens.specs.declared.kind.Kind.TheVariants as k
 use Rattle.c_tokens.specs.declared.token.Token.{Token}
-use Rattle.c_reader.specs.declared.sign.Sign.TheVariants as sign
 use Rattle.c_reader.specs.ReadExpressions.{◌>>=◌}
 use Rattle.c_reader.specs.Declarations.{Statement}
 use Rattle.c_reader.specs.Statements.{SpellsStatement, SpellsSimple, ends_open}
-use Rattle.c_reader.specs.Depth.{statements_depth}
-use Rattle.c_reader.specs.Signs.{begins}
 use Rattle.c_reader.specs.ReadDeclarations.{Reads, shallow_at}
 use Rattle.c_reader.specs.ReadStatements.{simple_at, mark_at, ended, entries_at, block_at, statement_by, statement_at}
 use Rattle.c_reader.proofs.Reading.{stepped, given, append_parts, cons_parts}
 use Rattle.c_reader.proofs.Shallow.{shallow-sound}
-use Rattle.c_reader.proofs.Stating.{simple_at-sound, mark_at-sound}
-use Rattle.c_reader.proofs.Blocks.{StatementFirst, AreStatements, ended-found, entries_at-sound, if_at-sound, while_at-sound, do_at-sound, for_at-sound}
+use Rattle.c_reader.proofs.SimpleSoundness.{simple_at-sound, mark_at-sound}
+use Rattle.c_reader.proofs.BlockSoundness.{StatementFirst, AreStatements, ended-found, entries_at-sound, if_at-sound, while_at-sound, do_at-sound, for_at-sound}
 
 -- an assignment is no `if`
 simple-closed : (s : Statement) (us : List Token) → SpellsSimple s us → ends_open (s tree.Nil) ≡ false
@@ -89,14 +85,14 @@ statement-by room inside first others k.Continue read sound is found =
     })
 statement-by room inside first others k.Return read sound is found =
     let x = stepped (shallow_at room others) _ read found in
-    let e = shallow-sound room others x.0 x.1 in
+    let value = shallow-sound room others x.0 x.1 in
     let semicolon = ended-found (tree.Return x.0.0) x.0.1 read x.2 in
     subst (λ (s : Statement). StatementFirst (suc room) (first ∷ others) s read.1) semicolon.1 (record {
-      front = first ∷ (e.at.front ++ semicolon.0.token ∷ []);
-      parts = cons_parts first (e.at.front ++ semicolon.0.token ∷ []) read.1 (first ∷ others) others refl
-          (append_parts e.at.front (semicolon.0.token ∷ []) read.1 others x.0.1 e.at.parts semicolon.0.parts);
-      spells = SpellsStatement.return x.0.0 first semicolon.0.token e.at.front is semicolon.0.has e.at.spells;
-      within = omega (arith, e.within);
+      front = first ∷ (value.at.front ++ semicolon.0.token ∷ []);
+      parts = cons_parts first (value.at.front ++ semicolon.0.token ∷ []) read.1 (first ∷ others) others refl
+          (append_parts value.at.front (semicolon.0.token ∷ []) read.1 others x.0.1 value.at.parts semicolon.0.parts);
+      spells = SpellsStatement.return x.0.0 first semicolon.0.token value.at.front is semicolon.0.has value.at.spells;
+      within = omega (arith, value.within);
       closed = λ is_open. absurd cc;
     })
 statement-by room inside first others k.MarkWord read sound is found =

@@ -1,25 +1,22 @@
 -- What is read as a file is spelled so, and is no deeper than its room.
-use Rattle.std.proofs.Common.{◌≡◌, ℕ, zero, suc, ◌<◌, ◌≤◌, ◌+◌, max, Bool, true, false, List, [], ◌∷◌, ◌++◌, length, length-append, Option, Some, None, refl, sym, ap, subst, ◌∙◌, append_assoc, inl, inr, ◌⊎◌, arith}
+use Rattle.std.proofs.Common.{◌≡◌, ℕ, zero, suc, ◌<◌, ◌≤◌, Bool, true, false, List, [], ◌∷◌, ◌++◌, length, length-append, Option, Some, None, refl, sym, ap, subst, ◌∙◌, arith}
 use Rattle.std.specs.Prelude.{option_to_list}
-use Rattle.c_ast.specs.declared.func.Var.{Var}
 use Rattle.c_ast.specs.RawTree.{RawFunction}
-use Rattle.c_ast.specs.RawView.{raw_joined}
 use Rattle.c_tokens.specs.declared.kind.Kind.TheVariants as k
 use Rattle.c_tokens.specs.declared.token.Token.{Token}
 use Rattle.c_reader.specs.declared.sign.Sign.TheVariants as sign
-use Rattle.c_reader.specs.ReadExpressions.{◌>>=◌}
-use Rattle.c_reader.specs.Declarations.{SpellsOptional, SpellsType, SpellsName}
+use Rattle.c_reader.specs.Declarations.{SpellsType, SpellsName}
 use Rattle.c_reader.specs.Units.{AreQualifiers, SpellsFunction, SpellsMarkDeclaration, SpellsUnit}
 use Rattle.c_reader.specs.Depth.{statements_depth, unit_depth}
 use Rattle.c_reader.specs.Signs.{is_sign, behind_sign, begins}
-use Rattle.c_reader.specs.ReadDeclarations.{Reads, unless, name_at, behind_type, parameters_at}
+use Rattle.c_reader.specs.ReadDeclarations.{unless, name_at, behind_type, parameters_at}
 use Rattle.c_reader.specs.ReadStatements.{entries_at, statement_at}
 use Rattle.c_reader.specs.ReadUnits.{unqualified, mark_declaration_at, function_at, item_by, item_at, items_within, unit_at}
 use Rattle.c_reader.proofs.Reading.{stepped, behind_sign-found, HasSign-from_test, given, append_parts, cons_parts}
 use Rattle.c_reader.proofs.Firsts.{FirstIs-some, starts_type, type-first}
-use Rattle.c_reader.proofs.Declaring.{name_at-sound, behind_type-sound, TypeFirst, unless-sound, parameters_at-sound}
-use Rattle.c_reader.proofs.Blocks.{entries_at-sound}
-use Rattle.c_reader.proofs.Statements.{statement_at-sound}
+use Rattle.c_reader.proofs.DeclarationSoundness.{name_at-sound, behind_type-sound, TypeFirst, unless-sound, parameters_at-sound}
+use Rattle.c_reader.proofs.BlockSoundness.{entries_at-sound}
+use Rattle.c_reader.proofs.StatementSoundness.{statement_at-sound}
 
 -- Qualifiers stand first, and then the tokens without them.
 record QualifiersFirst (tokens : List Token) : Type 0 where
@@ -98,12 +95,14 @@ function_at-sound room tokens read found =
     let tail : List Token = entries.front ++ entries.closing ∷ [] in
     subst (λ r. FunctionFirst room tokens r.0 r.1) (given body.2) (record {
       front = name.front ++ opening.token ∷ (ps.front ++ ps.closing ∷ curly.token ∷ tail);
-      parts = append_parts name.front (opening.token ∷ (ps.front ++ ps.closing ∷ curly.token ∷ tail)) body.0.1 tokens x.0.1 name.parts
+      parts = append_parts name.front (opening.token ∷ (ps.front ++ ps.closing ∷ curly.token ∷ tail)) body.0.1 tokens
+          x.0.1 name.parts
           (cons_parts opening.token (ps.front ++ ps.closing ∷ curly.token ∷ tail) body.0.1 x.0.1 head.0 opening.parts
           (append_parts ps.front (ps.closing ∷ curly.token ∷ tail) body.0.1 head.0 (ps.closing ∷ params.0.1) ps.parts
           (cons_parts ps.closing (curly.token ∷ tail) body.0.1 (ps.closing ∷ params.0.1) params.0.1 refl
           (cons_parts curly.token tail body.0.1 params.0.1 block.0 curly.parts entries.parts))));
-      spells = λ qualifiers us are type. SpellsFunction.function x.0.0 params.0.0 body.0.0 opening.token ps.closing curly.token
+      spells = λ qualifiers us are type. SpellsFunction.function x.0.0 params.0.0 body.0.0 opening.token ps.closing
+          curly.token
           entries.closing qualifiers us name.front ps.front entries.front opening.has ps.has curly.has entries.has are
           type name.spells ps.spells entries.spells;
       within = entries.within;
@@ -150,10 +149,12 @@ item-by room tokens others (Some behind_word) read qualifiers type is found =
     let mark = mark_declaration_at-sound word.token behind_word after.0 word.has after.1 in
     subst (λ r. ItemFirst room tokens r.0 r.1) (given after.2) (record {
       front = qualifiers.front ++ (type.front ++ word.token ∷ mark.front);
-      parts = append_parts qualifiers.front (type.front ++ word.token ∷ mark.front) after.0 tokens (unqualified tokens) qualifiers.parts
+      parts = append_parts qualifiers.front (type.front ++ word.token ∷ mark.front) after.0 tokens
+          (unqualified tokens) qualifiers.parts
           (append_parts type.front (word.token ∷ mark.front) after.0 (unqualified tokens) others type.parts
           (cons_parts word.token mark.front after.0 others behind_word word.parts mark.parts));
-      spells = λ vs funcs unit. SpellsUnit.mark_declaration funcs (qualifiers.front ++ (type.front ++ word.token ∷ mark.front)) vs
+      spells = λ vs funcs unit. SpellsUnit.mark_declaration funcs (qualifiers.front ++
+          (type.front ++ word.token ∷ mark.front)) vs
           (mark.spells qualifiers.front type.front qualifiers.are type.spells) unit;
       some = typed-some qualifiers.front type.front (word.token ∷ mark.front) type.spells;
       within = omega arith;

@@ -1,5 +1,5 @@
 -- Items that are read one after the other by a loop.
-use Rattle.std.proofs.Common.{◌≡◌, map, ℕ, zero, suc, ◌<◌, ◌≤◌, List, [], ◌∷◌, ◌++◌, length, Option, Some, None, refl, sym, ap, subst, ◌∙◌, append_assoc, arith}
+use Rattle.std.proofs.Common.{◌≡◌, map, ℕ, zero, suc, ◌<◌, List, [], ◌∷◌, ◌++◌, length, Option, Some, None, refl, sym, ap, subst, ◌∙◌, append_assoc, arith}
 use Rattle.std.specs.Prelude.{option_to_list, option_map}
 use Rattle.std.proofs.lemmas.List.{append-nil}
 use Rattle.c_ast.specs.RawTree.{RawFunction}
@@ -7,7 +7,7 @@ use Rattle.c_tokens.specs.declared.token.Token.{Token}
 use Rattle.c_reader.specs.ReadExpressions.{◌>>=◌}
 use Rattle.c_reader.specs.ReadUnits.{item_at, items_within, unit_at}
 use Rattle.c_reader.proofs.Reading.{step}
-use Rattle.c_reader.proofs.Files.{item_at-shorter}
+use Rattle.c_reader.proofs.UnitSoundness.{item_at-shorter}
 
 -- functions that are read, behind those that were read before
 abbrev after : List RawFunction → Option (List RawFunction) → Option (List RawFunction)
@@ -23,7 +23,8 @@ after-more made item None = refl
 after-more made item (Some funcs) = ap Some (sym (append_assoc made item funcs))
 
 -- Behind what is read so far comes the rest of all.
-pub record ItemsSoFar (room : ℕ) (made : List RawFunction) (others : List Token) (whole : Option (List RawFunction)) : Type 0 where
+pub record ItemsSoFar (room : ℕ) (made : List RawFunction) (others : List Token) (whole : Option
+    (List RawFunction)) : Type 0 where
   pub fuel : ℕ
   pub enough : length others < fuel
   pub same : after made (items_within room fuel others) ≡ whole

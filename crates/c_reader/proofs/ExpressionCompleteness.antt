@@ -11,7 +11,7 @@ use Rattle.c_tokens.specs.declared.token.Token.{Token}
 use Rattle.c_reader.specs.Expressions.{unary_of, operator_of, SpellsAt, named, constant, bracketed, signed, joined, chosen, alone, EndsExpression, SpellsExpression}
 use Rattle.c_reader.specs.ReadExpressions.{◌>>=◌, Reading, behind, is_question, is_colon, is_closing, next_operator, operand_at, further_at, level_at, choice_at, expression_at}
 use Rattle.c_reader.proofs.Parts.{Stops, under_sign}
-use Rattle.c_reader.proofs.Soundness.{operator-level}
+use Rattle.c_reader.proofs.ExpressionSoundness.{operator-level}
 use Rattle.c_reader.proofs.Readings.{operand_at-name, operand_at-constant, operand_at-bracket, closed, operand_at-sign, level_at-operand, operation_from, further_at-next, further_at-none, expression_at-level, choice_to, choice_from, choice_at-asked, choice_at-none}
 
 -- Where no operator of the level stands first, there is no next one.

@@ -52,7 +52,8 @@ none-by : {X : Type 0} (item : List Token → Reads X) (made : List X) (others :
     → prefixed made (listed_within item n others) ≡ whole → item others ≡ None → whole ≡ None
 none-by item made others whole zero same none = sym same
 none-by item made others whole (suc n) same none =
-    sym same ∙ ap (prefixed made) (none-step (λ x. listed_by x.0 x.1 (behind_sign sign.Comma x.1) (listed_within item n)) none)
+    sym same ∙ ap (prefixed made) (none-step (λ x. listed_by x.0 x.1 (behind_sign sign.Comma x.1)
+    (listed_within item n)) none)
 
 pub listed-none : {X : Type 0} (item : List Token → Reads X) (made : List X) (others : List Token) (whole : Reads (List X))
     → ListedSoFar item made others whole → item others ≡ None → whole ≡ None
@@ -71,7 +72,8 @@ pub listed-last : {X : Type 0} (item : List Token → Reads X) (made new : List 
     (whole : Reads (List X)) → ListedSoFar item made others whole → item others ≡ Some (x, after)
     → behind_sign sign.Comma after ≡ None → new ≡ made ++ x ∷ [] → whole ≡ Some (new, after)
 listed-last item made new others after x whole so_far found none pushed =
-    last-by item made others after x whole so_far.fuel so_far.enough so_far.same found none ∙ ap (λ l. Some (l, after)) (sym pushed)
+    last-by item made others after x whole so_far.fuel so_far.enough so_far.same found none
+    ∙ ap (λ l. Some (l, after)) (sym pushed)
 
 more-by : {X : Type 0} (item : List Token → Reads X) (made : List X) (others after behind : List Token) (x : X)
     (whole : Reads (List X)) (n : ℕ) → length behind < length others → length others < n
@@ -102,7 +104,8 @@ pub listed-more : {X : Type 0} (Spells : X → List Token → Type 0) (item : Li
     → new ≡ made ++ x ∷ [] → ListedSoFar item new behind whole
 listed-more Spells item made new others after behind x whole sound so_far found comma pushed =
     subst (λ l. ListedSoFar item l behind whole) (sym pushed)
-    (more-by item made others after behind x whole so_far.fuel (listed-shorter Spells item others after behind x sound found comma)
+    (more-by item made others after behind x whole so_far.fuel (listed-shorter Spells item others after behind x
+    sound found comma)
     so_far.enough so_far.same found comma)
 
 -- ---- entries up to a brace
@@ -128,7 +131,8 @@ closed-by : (item : List Token → Reads Statement) (made : List Statement) (oth
     → behind_sign sign.CloseCurly others ≡ Some after → whole ≡ Some (made, after)
 closed-by item made others after whole zero enough same closing = absurd (omega arith)
 closed-by item made others after whole (suc n) enough same closing =
-    sym same ∙ ap (λ behind. prefixed made (entries_by behind (item others >>= λ x. entries_within item n x.1 >>= λ y. Some (x.0 ∷ y.0, y.1)))) closing
+    sym same ∙ ap (λ behind. prefixed made (entries_by behind (item others >>= λ x. entries_within item n x.1 >>= λ
+    y. Some (x.0 ∷ y.0, y.1)))) closing
     ∙ ap (λ l. Some (l, after)) (append-nil made)
 
 pub entries-closed : (item : List Token → Reads Statement) (made : List Statement) (others after : List Token)

@@ -17,14 +17,14 @@ use Rattle.c_reader.specs.Signs.{is_sign, begins}
 use Rattle.c_reader.specs.ReadDeclarations.{Reads, begins_type, declaration_at, optional, unless}
 use Rattle.c_reader.specs.ReadStatements.{simple_at, condition_at, start_at, if_at, while_at, do_at, head_at, for_at, ended, entry_at, entries_within, entries_by, entries_at, block_at, statement_by, statement_at}
 use Rattle.c_reader.proofs.Reading.{step, behind_sign-here, test-from_HasSign, HasSign}
-use Rattle.c_reader.proofs.Shallow.{shallow-behind}
+use Rattle.c_reader.proofs.Shallow.{shallow-complete}
 use Rattle.c_reader.proofs.Levels.{declaration-level, statement-level}
-use Rattle.c_reader.proofs.Declaring.{SpellsWithin}
-use Rattle.c_reader.proofs.Stating.{SpellsShallowCondition}
+use Rattle.c_reader.proofs.DeclarationSoundness.{SpellsWithin}
+use Rattle.c_reader.proofs.SimpleSoundness.{SpellsShallowCondition}
 use Rattle.c_reader.proofs.Firsts.{FirstIs, FirstIs-append, FirstIs-some, begins-not, behind_sign-not, ends-at, starts_type, type-first, type-no_else, type-no_brace, type-no_semicolon, starts_expression, expression-first, expression-no_semicolon, starts_simple, simple-first, simple-no_int, simple-no_long, simple-no_semicolon, simple-no_bracket, starts_statement, statement-first, statement-no_else, statement-no_brace, statement-no_int, statement-no_long}
-use Rattle.c_reader.proofs.DeclarationsBack.{kind-not, behind_sign-none, declaration-behind}
-use Rattle.c_reader.proofs.SimpleBack.{simple-behind, mark-behind, condition-behind}
-use Rattle.c_reader.proofs.Loops.{on-by}
+use Rattle.c_reader.proofs.DeclarationCompleteness.{kind-not, behind_sign-none, declaration-complete}
+use Rattle.c_reader.proofs.SimpleCompleteness.{simple-complete, mark-complete, condition-complete}
+use Rattle.c_reader.proofs.ListLoops.{on-by}
 
 pub ended-here : {X : Type 0} (x : X) (semicolon : Token) (after : List Token) → semicolon.kind ≡ k.Semicolon
     → ended x (semicolon ∷ after) ≡ Some (x, after)
@@ -49,43 +49,34 @@ declaration-first : (s : Statement) (us : List Token) → SpellsDeclaration s us
 declaration-first _ _ (SpellsDeclaration.declaration declarators us vs type spells) =
     FirstIs-append starts_type us vs (type-first us type)
 
-start-behind : (s : Statement) (us : List Token) (semicolon : Token) (after : List Token) (room : ℕ) → SpellsStart s us
+start-complete : (s : Statement) (us : List Token) (semicolon : Token) (after : List Token) (room : ℕ) → SpellsStart s us
     → semicolon.kind ≡ k.Semicolon → statements_depth (s tree.Nil) ≤ room
     → start_at room (us ++ semicolon ∷ after) ≡ Some (s, semicolon ∷ after)
 unfolding start_at
-start-behind s us semicolon after room (SpellsStart.simple _ _ spells) is low =
+start-complete s us semicolon after room (SpellsStart.simple _ _ spells) is low =
     let tokens = us ++ semicolon ∷ after in
-    let first : FirstIs starts_simple tokens = FirstIs-append starts_simple us (semicolon ∷ after) (simple-first s us spells) in
-    let other : begins_type tokens ≡ false = begins_type-not tokens (begins-not starts_simple sign.Int tokens simple-no_int first)
+    let first : FirstIs starts_simple tokens = FirstIs-append starts_simple us (semicolon ∷ after)
+    (simple-first s us spells) in
+    let other : begins_type tokens ≡ false = begins_type-not tokens (begins-not starts_simple sign.Int tokens
+    simple-no_int first)
     (begins-not starts_simple sign.Long tokens simple-no_long first) in
     ap (λ (b : Bool). if b then declaration_at room tokens else simple_at room tokens) other
-    ∙ simple-behind s us (semicolon ∷ after) room spells low (ends-at k.Semicolon semicolon after is refl (λ asks. cc))
-start-behind s us semicolon after room (SpellsStart.declaration _ _ spells) is low =
+    ∙ simple-complete s us (semicolon ∷ after) room spells low (ends-at k.Semicolon semicolon after is refl (λ asks. cc))
+start-complete s us semicolon after room (SpellsStart.declaration _ _ spells) is low =
     let tokens = us ++ semicolon ∷ after in
     let here : begins_type tokens ≡ true = begins_type-here tokens
     (FirstIs-append starts_type us (semicolon ∷ after) (declaration-first s us spells)) in
     ap (λ (b : Bool). if b then declaration_at room tokens else simple_at room tokens) here
-    ∙ declaration-behind s us semicolon after room spells is low
+    ∙ declaration-complete s us semicolon after room spells is low
 
-start-no_semicolon : (s : Statement) (us : List Token) → SpellsStart s us → begins sign.Semicolon us ≡ false
-start-no_semicolon s us (SpellsStart.simple _ _ spells) =
-    begins-not starts_simple sign.Semicolon us simple-no_semicolon (simple-first s us spells)
-start-no_semicolon s us (SpellsStart.declaration _ _ spells) =
-    begins-not starts_type sign.Semicolon us type-no_semicolon (declaration-first s us spells)
-
--- a sign that does not stand first among some tokens does not among those with others behind them
-begins-append : (s : Sign) (us vs : List Token) → 0 < length us → begins s us ≡ false → begins s (us ++ vs) ≡ false
-begins-append s [] vs some is = absurd (omega (arith, some))
-begins-append s (first ∷ others) vs some is = is
-
-pub unless-behind : {X : Type 0} (Spells : X → List Token → Type 0) (item : List Token → Reads X) (s : Sign) (x : Option X)
+pub unless-complete : {X : Type 0} (Spells : X → List Token → Type 0) (item : List Token → Reads X) (s : Sign) (x : Option X)
     (us : List Token) (closing : Token) (after : List Token) → SpellsOptional Spells x us → HasSign s closing.kind
     → ((y : X) (vs : List Token) → Spells y vs → (begins s (vs ++ closing ∷ after) ≡ false)
     × (item (vs ++ closing ∷ after) ≡ Some (y, closing ∷ after)))
     → unless (begins s (us ++ closing ∷ after)) (us ++ closing ∷ after) item ≡ Some (x, closing ∷ after)
-unless-behind Spells item s _ _ closing after SpellsOptional.nothing is reads =
+unless-complete Spells item s _ _ closing after SpellsOptional.nothing is reads =
     ap (λ (b : Bool). unless b (closing ∷ after) item) (test-from_HasSign s closing.kind is)
-unless-behind Spells item s _ _ closing after (SpellsOptional.something y vs spells) is reads =
+unless-complete Spells item s _ _ closing after (SpellsOptional.something y vs spells) is reads =
     let both = reads y vs spells in
     ap (λ (b : Bool). unless b (vs ++ closing ∷ after) item) both.0 ∙ step _ (y, closing ∷ after) both.1 refl
 
@@ -105,8 +96,9 @@ condition-no_semicolon _ us vs (SpellsCondition.unmarked e _ spells) =
     begins-not starts_expression sign.Semicolon (us ++ vs) expression-no_semicolon
     (FirstIs-append starts_expression us vs (expression-first e us spells))
 condition-no_semicolon _ _ vs
-    (SpellsCondition.marked _ e joint _ ws (SpellsMark.mark number word opening constant closing a b c d) is spells) =
-    kind-not sign.Semicolon word k.MarkWord a refl
+    (SpellsCondition.marked _ e joint _ ws (SpellsMark.mark number word opening constant closing is_mark opens
+    is_constant closes) is spells) =
+    kind-not sign.Semicolon word k.MarkWord is_mark refl
 
 start-first : (s : Statement) (us vs : List Token) → SpellsStart s us → begins sign.Semicolon (us ++ vs) ≡ false
 start-first s us vs (SpellsStart.simple _ _ spells) =
@@ -116,39 +108,47 @@ start-first s us vs (SpellsStart.declaration _ _ spells) =
     begins-not starts_type sign.Semicolon (us ++ vs) type-no_semicolon
     (FirstIs-append starts_type us vs (declaration-first s us spells))
 
-head-behind : (room : ℕ) (start : Option Statement) (cond : Option RawCondition) (each : Option Statement)
+head-complete : (room : ℕ) (start : Option Statement) (cond : Option RawCondition) (each : Option Statement)
     (opening first second closing : Token) (us vs ws after : List Token) → opening.kind ≡ k.OpenRound
     → first.kind ≡ k.Semicolon → second.kind ≡ k.Semicolon → closing.kind ≡ k.CloseRound
     → SpellsOptional (SpellsWithin SpellsStart room) start us → SpellsOptional (SpellsShallowCondition room) cond vs
     → SpellsOptional (SpellsWithin SpellsSimple room) each ws
     → head_at room (opening ∷ (us ++ first ∷ (vs ++ second ∷ (ws ++ closing ∷ after)))) ≡ Some ((start, cond, each), after)
 unfolding head_at
-head-behind room start cond each opening first second closing us vs ws after a b c d spells_start spells_cond spells_each =
+head-complete room start cond each opening first second closing us vs ws after opens ends_first ends_second closes
+    spells_start spells_cond spells_each =
     let last : List Token = ws ++ closing ∷ after in
     let middle : List Token = vs ++ second ∷ last in
-    step _ (us ++ first ∷ middle) (behind_sign-here sign.OpenRound opening (us ++ first ∷ middle) a)
-    (step _ (start, first ∷ middle) (unless-behind (SpellsWithin SpellsStart room) (start_at room) sign.Semicolon start us first middle spells_start b
-    (λ s xs spells. (start-first s xs (first ∷ middle) spells.0, start-behind s xs first middle room spells.0 b spells.1)))
-    (step _ middle (behind_sign-here sign.Semicolon first middle b)
-    (step _ (cond, second ∷ last) (unless-behind (SpellsShallowCondition room) (condition_at room) sign.Semicolon cond vs second last spells_cond c
+    step _ (us ++ first ∷ middle) (behind_sign-here sign.OpenRound opening (us ++ first ∷ middle) opens)
+    (step _ (start, first ∷ middle) (unless-complete (SpellsWithin SpellsStart room)
+    (start_at room) sign.Semicolon start us first middle spells_start ends_first
+    (λ s xs spells. (
+      start-first s xs (first ∷ middle) spells.0,
+      start-complete s xs first middle room spells.0
+          ends_first spells.1,
+    )))
+    (step _ middle (behind_sign-here sign.Semicolon first middle ends_first)
+    (step _ (cond, second ∷ last) (unless-complete (SpellsShallowCondition room)
+    (condition_at room) sign.Semicolon cond vs second last spells_cond ends_second
     (λ x xs spells. (
       condition-no_semicolon x xs (second ∷ last) spells.0,
-      condition-behind room x xs (second ∷ last) spells.0 spells.1
-          (ends-at k.Semicolon second last c refl (λ asks. cc)),
+      condition-complete room x xs (second ∷ last) spells.0 spells.1
+          (ends-at k.Semicolon second last ends_second refl (λ asks. cc)),
     )))
-    (step _ last (behind_sign-here sign.Semicolon second last c)
-    (step _ (each, closing ∷ after) (unless-behind (SpellsWithin SpellsSimple room) (simple_at room) sign.CloseRound each ws closing after spells_each d
+    (step _ last (behind_sign-here sign.Semicolon second last ends_second)
+    (step _ (each, closing ∷ after) (unless-complete (SpellsWithin SpellsSimple room)
+    (simple_at room) sign.CloseRound each ws closing after spells_each closes
     (λ s xs spells. (
       begins-not starts_simple sign.CloseRound (xs ++ closing ∷ after) simple-no_bracket
           (FirstIs-append starts_simple xs (closing ∷ after) (simple-first s xs spells.0)),
-      simple-behind s xs (closing ∷ after) room spells.0 spells.1
-          (ends-at k.CloseRound closing after d refl (λ asks. cc)),
+      simple-complete s xs (closing ∷ after) room spells.0 spells.1
+          (ends-at k.CloseRound closing after closes refl (λ asks. cc)),
     )))
-    (step _ after (behind_sign-here sign.CloseRound closing after d) refl))))))
+    (step _ after (behind_sign-here sign.CloseRound closing after closes) refl))))))
 
 -- ---- statements by their first words
 
-for-behind : (room : ℕ) (start : Option Statement) (cond : Option RawCondition) (each : Option Statement) (body : Statement)
+for-complete : (room : ℕ) (start : Option Statement) (cond : Option RawCondition) (each : Option Statement) (body : Statement)
     (word opening first second closing : Token) (us vs ws xs after : List Token) → word.kind ≡ k.For
     → opening.kind ≡ k.OpenRound → first.kind ≡ k.Semicolon → second.kind ≡ k.Semicolon → closing.kind ≡ k.CloseRound
     → SpellsOptional (SpellsWithin SpellsStart room) start us → SpellsOptional (SpellsShallowCondition room) cond vs
@@ -156,7 +156,8 @@ for-behind : (room : ℕ) (start : Option Statement) (cond : Option RawCondition
     → statement_at (suc room) ((word ∷ opening ∷ (us ++ first ∷ (vs ++ second ∷ (ws ++ closing ∷ xs)))) ++ after)
     ≡ Some (tree.For (raw_optional start) cond (raw_optional each) (raw_one body), after)
 unfolding statement_at for_at
-for-behind room start cond each body word opening first second closing us vs ws xs after f a b c d spells_start spells_cond
+for-complete room start cond each body word opening first second closing us vs ws xs after is opens ends_first
+    ends_second closes spells_start spells_cond
     spells_each inner =
     let last : List Token = ws ++ closing ∷ (xs ++ after) in
     let middle : List Token = vs ++ second ∷ last in
@@ -166,27 +167,32 @@ for-behind room start cond each body word opening first second closing us vs ws 
     ∙ ap (λ (l : List Token). us ++ first ∷ l) (append_assoc vs (second ∷ (ws ++ closing ∷ xs)) after
     ∙ ap (λ (l : List Token). vs ++ second ∷ l) (append_assoc ws (closing ∷ xs) after)) in
     ap (λ (l : List Token). statement_at (suc room) (word ∷ opening ∷ l)) parts
-    ∙ ap (λ kind. statement_by room (statement_at room) kind word tokens) f
-    ∙ step _ ((start, cond, each), xs ++ after) (head-behind room start cond each opening first second closing us vs ws (xs ++ after) a b c d
+    ∙ ap (λ kind. statement_by room (statement_at room) kind word tokens) is
+    ∙ step _ ((start, cond, each), xs ++ after) (head-complete room start cond each opening first second closing us
+    vs ws (xs ++ after) opens ends_first ends_second closes
     spells_start spells_cond spells_each)
     (step _ (body, after) inner refl)
 
-while-behind : (room : ℕ) (cond : RawCondition) (body : Statement) (word opening closing : Token) (us vs after : List Token)
+while-complete : (room : ℕ) (cond : RawCondition) (body : Statement) (word opening closing : Token) (us vs after : List Token)
     → word.kind ≡ k.While → opening.kind ≡ k.OpenRound → closing.kind ≡ k.CloseRound → SpellsCondition cond us
     → expression_depth cond.cond ≤ room → statement_at room (vs ++ after) ≡ Some (body, after)
-    → statement_at (suc room) ((word ∷ opening ∷ (us ++ closing ∷ vs)) ++ after) ≡ Some (tree.While cond (raw_one body), after)
+    → statement_at (suc room) ((word ∷ opening ∷ (us ++ closing ∷ vs)) ++ after) ≡ Some (
+      tree.While cond
+          (raw_one body),
+      after,
+    )
 unfolding statement_at while_at
-while-behind room cond body word opening closing us vs after f a b spells low inner =
+while-complete room cond body word opening closing us vs after is opens closes spells low inner =
     let tokens : List Token = us ++ closing ∷ (vs ++ after) in
     ap (λ (l : List Token). statement_at (suc room) (word ∷ opening ∷ l)) (append_assoc us (closing ∷ vs) after)
-    ∙ ap (λ kind. statement_by room (statement_at room) kind word (opening ∷ tokens)) f
-    ∙ step _ tokens (behind_sign-here sign.OpenRound opening tokens a)
-    (step _ (cond, closing ∷ (vs ++ after)) (condition-behind room cond us (closing ∷ (vs ++ after)) spells low
-    (ends-at k.CloseRound closing (vs ++ after) b refl (λ asks. cc)))
-    (step _ (vs ++ after) (behind_sign-here sign.CloseRound closing (vs ++ after) b)
+    ∙ ap (λ kind. statement_by room (statement_at room) kind word (opening ∷ tokens)) is
+    ∙ step _ tokens (behind_sign-here sign.OpenRound opening tokens opens)
+    (step _ (cond, closing ∷ (vs ++ after)) (condition-complete room cond us (closing ∷ (vs ++ after)) spells low
+    (ends-at k.CloseRound closing (vs ++ after) closes refl (λ asks. cc)))
+    (step _ (vs ++ after) (behind_sign-here sign.CloseRound closing (vs ++ after) closes)
     (step _ (body, after) inner refl)))
 
-do-behind : (room : ℕ) (body : Statement) (cond : RawCondition) (first word opening closing semicolon : Token)
+do-complete : (room : ℕ) (body : Statement) (cond : RawCondition) (first word opening closing semicolon : Token)
     (us vs after : List Token) → first.kind ≡ k.Do → word.kind ≡ k.While → opening.kind ≡ k.OpenRound
     → closing.kind ≡ k.CloseRound → semicolon.kind ≡ k.Semicolon → SpellsCondition cond vs
     → expression_depth cond.cond ≤ room
@@ -194,39 +200,40 @@ do-behind : (room : ℕ) (body : Statement) (cond : RawCondition) (first word op
     → statement_at (suc room) ((first ∷ (us ++ word ∷ opening ∷ (vs ++ closing ∷ semicolon ∷ []))) ++ after)
     ≡ Some (tree.Do (raw_one body) cond, after)
 unfolding statement_at do_at
-do-behind room body cond first word opening closing semicolon us vs after f w a b c spells low inner =
+do-complete room body cond first word opening closing semicolon us vs after is is_while opens closes ends spells low inner =
     let last : List Token = closing ∷ semicolon ∷ after in
     let parts : (us ++ word ∷ opening ∷ (vs ++ closing ∷ semicolon ∷ [])) ++ after ≡ us ++ word ∷ opening ∷ (vs ++ last) =
     append_assoc us (word ∷ opening ∷ (vs ++ closing ∷ semicolon ∷ [])) after
     ∙ ap (λ (l : List Token). us ++ word ∷ opening ∷ l) (append_assoc vs (closing ∷ semicolon ∷ []) after) in
     ap (λ (l : List Token). statement_at (suc room) (first ∷ l)) parts
-    ∙ ap (λ kind. statement_by room (statement_at room) kind first (us ++ word ∷ opening ∷ (vs ++ last))) f
+    ∙ ap (λ kind. statement_by room (statement_at room) kind first (us ++ word ∷ opening ∷ (vs ++ last))) is
     ∙ step _ (body, word ∷ opening ∷ (vs ++ last)) (inner (opening ∷ (vs ++ last)))
-    (step _ (opening ∷ (vs ++ last)) (behind_sign-here sign.While word (opening ∷ (vs ++ last)) w)
-    (step _ (vs ++ last) (behind_sign-here sign.OpenRound opening (vs ++ last) a)
-    (step _ (cond, last) (condition-behind room cond vs last spells low
-    (ends-at k.CloseRound closing (semicolon ∷ after) b refl (λ asks. cc)))
-    (step _ (semicolon ∷ after) (behind_sign-here sign.CloseRound closing (semicolon ∷ after) b)
-    (step _ after (behind_sign-here sign.Semicolon semicolon after c) refl)))))
+    (step _ (opening ∷ (vs ++ last)) (behind_sign-here sign.While word (opening ∷ (vs ++ last)) is_while)
+    (step _ (vs ++ last) (behind_sign-here sign.OpenRound opening (vs ++ last) opens)
+    (step _ (cond, last) (condition-complete room cond vs last spells low
+    (ends-at k.CloseRound closing (semicolon ∷ after) closes refl (λ asks. cc)))
+    (step _ (semicolon ∷ after) (behind_sign-here sign.CloseRound closing (semicolon ∷ after) closes)
+    (step _ after (behind_sign-here sign.Semicolon semicolon after ends) refl)))))
 
-if-behind : (room : ℕ) (cond : RawExpression) (s : Statement) (word opening closing : Token) (us vs after : List Token)
+if-complete : (room : ℕ) (cond : RawExpression) (s : Statement) (word opening closing : Token) (us vs after : List Token)
     → word.kind ≡ k.If → opening.kind ≡ k.OpenRound → closing.kind ≡ k.CloseRound → SpellsExpression cond us
     → expression_depth cond ≤ room → statement_at room (vs ++ after) ≡ Some (s, after)
     → begins sign.Else after ≡ false
     → statement_at (suc room) ((word ∷ opening ∷ (us ++ closing ∷ vs)) ++ after) ≡ Some (tree.If cond (raw_one s), after)
 unfolding statement_at if_at
-if-behind room cond s word opening closing us vs after f a b spells low inner none =
+if-complete room cond s word opening closing us vs after is opens closes spells low inner none =
     let tokens : List Token = us ++ closing ∷ (vs ++ after) in
     ap (λ (l : List Token). statement_at (suc room) (word ∷ opening ∷ l)) (append_assoc us (closing ∷ vs) after)
-    ∙ ap (λ kind. statement_by room (statement_at room) kind word (opening ∷ tokens)) f
-    ∙ step _ tokens (behind_sign-here sign.OpenRound opening tokens a)
-    (step _ (cond, closing ∷ (vs ++ after)) (shallow-behind room cond us (closing ∷ (vs ++ after)) spells
-    (ends-at k.CloseRound closing (vs ++ after) b refl (λ asks. cc)) low)
-    (step _ (vs ++ after) (behind_sign-here sign.CloseRound closing (vs ++ after) b)
+    ∙ ap (λ kind. statement_by room (statement_at room) kind word (opening ∷ tokens)) is
+    ∙ step _ tokens (behind_sign-here sign.OpenRound opening tokens opens)
+    (step _ (cond, closing ∷ (vs ++ after)) (shallow-complete room cond us (closing ∷ (vs ++ after)) spells
+    (ends-at k.CloseRound closing (vs ++ after) closes refl (λ asks. cc)) low)
+    (step _ (vs ++ after) (behind_sign-here sign.CloseRound closing (vs ++ after) closes)
     (step _ (s, after) inner
-    (step _ (None, after) (ap (λ behind. optional behind after (statement_at room)) (behind_sign-none sign.Else after none)) refl))))
+    (step _ (None, after) (ap (λ behind. optional behind after (statement_at room))
+    (behind_sign-none sign.Else after none)) refl))))
 
-if_else-behind : (room : ℕ) (cond : RawExpression) (s t : Statement) (word opening closing other : Token)
+if_else-complete : (room : ℕ) (cond : RawExpression) (s t : Statement) (word opening closing other : Token)
     (us vs ws after : List Token) → word.kind ≡ k.If → opening.kind ≡ k.OpenRound → closing.kind ≡ k.CloseRound
     → other.kind ≡ k.Else → SpellsExpression cond us → expression_depth cond ≤ room
     → statement_at room (vs ++ other ∷ (ws ++ after)) ≡ Some (s, other ∷ (ws ++ after))
@@ -234,20 +241,21 @@ if_else-behind : (room : ℕ) (cond : RawExpression) (s t : Statement) (word ope
     → statement_at (suc room) ((word ∷ opening ∷ (us ++ closing ∷ (vs ++ other ∷ ws))) ++ after)
     ≡ Some (tree.IfElse cond (raw_one s) (raw_one t), after)
 unfolding statement_at if_at
-if_else-behind room cond s t word opening closing other us vs ws after f a b c spells low inner second =
+if_else-complete room cond s t word opening closing other us vs ws after is opens closes is_else spells low inner second =
     let rest_of : List Token = ws ++ after in
     let back : List Token = vs ++ other ∷ rest_of in
     let tokens : List Token = us ++ closing ∷ back in
     let parts : (us ++ closing ∷ (vs ++ other ∷ ws)) ++ after ≡ tokens = append_assoc us (closing ∷ (vs ++ other ∷ ws)) after
     ∙ ap (λ (l : List Token). us ++ closing ∷ l) (append_assoc vs (other ∷ ws) after) in
     ap (λ (l : List Token). statement_at (suc room) (word ∷ opening ∷ l)) parts
-    ∙ ap (λ kind. statement_by room (statement_at room) kind word (opening ∷ tokens)) f
-    ∙ step _ tokens (behind_sign-here sign.OpenRound opening tokens a)
-    (step _ (cond, closing ∷ back) (shallow-behind room cond us (closing ∷ back) spells
-    (ends-at k.CloseRound closing back b refl (λ asks. cc)) low)
-    (step _ back (behind_sign-here sign.CloseRound closing back b)
+    ∙ ap (λ kind. statement_by room (statement_at room) kind word (opening ∷ tokens)) is
+    ∙ step _ tokens (behind_sign-here sign.OpenRound opening tokens opens)
+    (step _ (cond, closing ∷ back) (shallow-complete room cond us (closing ∷ back) spells
+    (ends-at k.CloseRound closing back closes refl (λ asks. cc)) low)
+    (step _ back (behind_sign-here sign.CloseRound closing back closes)
     (step _ (s, other ∷ rest_of) inner
-    (step _ (Some t, after) (ap (λ behind. optional behind (other ∷ rest_of) (statement_at room)) (behind_sign-here sign.Else other rest_of c)
+    (step _ (Some t, after) (ap (λ behind. optional behind (other ∷ rest_of) (statement_at room))
+    (behind_sign-here sign.Else other rest_of is_else)
     ∙ step _ (t, after) second refl) refl))))
 
 -- where an assignment begins, one is read
@@ -274,7 +282,7 @@ simple-read room s semicolon us after is spells low =
     let tokens : List Token = us ++ semicolon ∷ after in
     ap (statement_at (suc room)) (append_assoc us (semicolon ∷ []) after)
     ∙ simply-read room tokens (FirstIs-append starts_simple us (semicolon ∷ after) (simple-first s us spells))
-    ∙ step _ (s, semicolon ∷ after) (simple-behind s us (semicolon ∷ after) (suc room) spells low
+    ∙ step _ (s, semicolon ∷ after) (simple-complete s us (semicolon ∷ after) (suc room) spells low
     (ends-at k.Semicolon semicolon after is refl (λ asks. cc)))
     (ended-here s semicolon after is)
 
@@ -286,7 +294,7 @@ closed_for kind shut is_open = cc
 entries-no_else : (entries : List Statement) (us : List Token) (closing : Token) (after : List Token)
     → SpellsEntries entries us → closing.kind ≡ k.CloseCurly → begins sign.Else (us ++ closing ∷ after) ≡ false
 entries-no_else _ _ closing after SpellsEntries.none is = kind-not sign.Else closing k.CloseCurly is refl
-entries-no_else _ _ closing after (SpellsEntries.declaration s others semicolon us vs a spells more_entries) is =
+entries-no_else _ _ closing after (SpellsEntries.declaration s others semicolon us vs ends spells more_entries) is =
     begins-not starts_type sign.Else ((us ++ semicolon ∷ vs) ++ closing ∷ after) type-no_else
     (FirstIs-append starts_type (us ++ semicolon ∷ vs) (closing ∷ after)
     (FirstIs-append starts_type us (semicolon ∷ vs) (declaration-first s us spells)))
@@ -296,21 +304,28 @@ entries-no_else _ _ closing after (SpellsEntries.statement s others us vs spells
     (FirstIs-append starts_statement us vs (statement-first s us spells)))
 
 positive : (s : Statement) (us : List Token) → SpellsStatement s us → 1 ≤ statements_depth (s tree.Nil)
-positive _ _ (SpellsStatement.block entries opening closing us a b spells) = omega arith
-positive _ _ (SpellsStatement.empty semicolon a) = omega arith
-positive _ _ (SpellsStatement.simple _ semicolon _ a (SpellsSimple.assignment name e word sign us named is spells)) = omega arith
-positive _ _ (SpellsStatement.simple _ semicolon _ a (SpellsSimple.update name op e word sign us named is spells)) = omega arith
-positive _ _ (SpellsStatement.simple _ semicolon _ a (SpellsSimple.step_behind name op word sign named is)) = omega arith
-positive _ _ (SpellsStatement.simple _ semicolon _ a (SpellsSimple.step_before name op word sign named is)) = omega arith
-positive _ _ (SpellsStatement.if_alone cond first word opening closing us vs a b c e s) = omega arith
-positive _ _ (SpellsStatement.if_else cond first second word opening closing other us vs ws a b c d e s shut t) = omega arith
-positive _ _ (SpellsStatement.while cond body word opening closing us vs a b c e s) = omega arith
-positive _ _ (SpellsStatement.do_while body cond first word opening closing semicolon us vs a b c d e s t) = omega arith
-positive _ _ (SpellsStatement.for start cond step body word opening first second closing us vs ws xs a b c d e p q r s) = omega arith
-positive _ _ (SpellsStatement.break word semicolon a b) = omega arith
-positive _ _ (SpellsStatement.continue word semicolon a b) = omega arith
-positive _ _ (SpellsStatement.return e word semicolon us a b spells) = omega arith
-positive _ _ (SpellsStatement.mark number semicolon us a spells) = omega arith
+positive _ _ (SpellsStatement.block entries opening closing us is closes spells) = omega arith
+positive _ _ (SpellsStatement.empty semicolon is) = omega arith
+positive _ _ (SpellsStatement.simple _ semicolon _ ends (SpellsSimple.assignment name e word sign us named is
+    spells)) = omega arith
+positive _ _ (SpellsStatement.simple _ semicolon _ ends (SpellsSimple.update name op e word sign us named is spells))
+    = omega arith
+positive _ _ (SpellsStatement.simple _ semicolon _ ends (SpellsSimple.step_behind name op word sign named is)) = omega arith
+positive _ _ (SpellsStatement.simple _ semicolon _ ends (SpellsSimple.step_before name op word sign named is)) = omega arith
+positive _ _ (SpellsStatement.if_alone cond first word opening closing us vs is opens closes spells_cond
+    spells_first) = omega arith
+positive _ _ (SpellsStatement.if_else cond first second word opening closing other us vs ws is opens closes is_else
+    spells_cond spells_first shut spells_second) = omega arith
+positive _ _ (SpellsStatement.while cond body word opening closing us vs is opens closes spells_cond spells_body) =
+    omega arith
+positive _ _ (SpellsStatement.do_while body cond first word opening closing semicolon us vs is is_while opens closes
+    ends spells_body spells_cond) = omega arith
+positive _ _ (SpellsStatement.for start cond step body word opening first second closing us vs ws xs is opens
+    ends_first ends_second closes spells_start spells_cond spells_step spells_body) = omega arith
+positive _ _ (SpellsStatement.break word semicolon is ends) = omega arith
+positive _ _ (SpellsStatement.continue word semicolon is ends) = omega arith
+positive _ _ (SpellsStatement.return e word semicolon us is ends spells) = omega arith
+positive _ _ (SpellsStatement.mark number semicolon us ends spells) = omega arith
 
 -- the first entry of a block is a declaration,
 declaration-entry : (room n : ℕ) (s : Statement) (others : List Statement) (semicolon closing : Token)
@@ -323,12 +338,16 @@ unfolding entry_at
 declaration-entry room n s others semicolon closing us vs after is spells low more_entries =
     let behind_it : List Token = vs ++ closing ∷ after in
     let tokens : List Token = us ++ semicolon ∷ behind_it in
-    let first : FirstIs starts_type tokens = FirstIs-append starts_type us (semicolon ∷ behind_it) (declaration-first s us spells) in
+    let first : FirstIs starts_type tokens = FirstIs-append starts_type us (semicolon ∷ behind_it)
+    (declaration-first s us spells) in
     ap (entries_within (entry_at room (statement_at room)) (suc n)) (append_assoc us (semicolon ∷ vs) (closing ∷ after))
-    ∙ on-by (entry_at room (statement_at room)) tokens n (behind_sign-not starts_type sign.CloseCurly tokens type-no_brace first)
+    ∙ on-by (entry_at room (statement_at room)) tokens n (behind_sign-not starts_type sign.CloseCurly tokens
+    type-no_brace first)
     ∙ step _ (s, behind_it)
-    (ap (λ (b : Bool). if b then (declaration_at room tokens >>= λ x. ended x.0 x.1) else statement_at room tokens) (begins_type-here tokens first)
-    ∙ step _ (s, semicolon ∷ behind_it) (declaration-behind s us semicolon behind_it room spells is low) (ended-here s semicolon behind_it is))
+    (ap (λ (b : Bool). if b then (declaration_at room tokens >>= λ x. ended x.0 x.1) else statement_at room tokens)
+    (begins_type-here tokens first)
+    ∙ step _ (s, semicolon ∷ behind_it) (declaration-complete s us semicolon behind_it room spells is low)
+    (ended-here s semicolon behind_it is))
     (step _ (others, after) more_entries refl)
 
 -- or a statement
@@ -340,7 +359,8 @@ unfolding entry_at
 statement-entry room n s others closing us vs after spells read more_entries =
     let behind_it : List Token = vs ++ closing ∷ after in
     let tokens : List Token = us ++ behind_it in
-    let first : FirstIs starts_statement tokens = FirstIs-append starts_statement us behind_it (statement-first s us spells) in
+    let first : FirstIs starts_statement tokens = FirstIs-append starts_statement us behind_it
+    (statement-first s us spells) in
     ap (entries_within (entry_at room (statement_at room)) (suc n)) (append_assoc us vs (closing ∷ after))
     ∙ on-by (entry_at room (statement_at room)) tokens n
     (behind_sign-not starts_statement sign.CloseCurly tokens statement-no_brace first)
@@ -350,107 +370,121 @@ statement-entry room n s others closing us vs after spells read more_entries =
     (begins-not starts_statement sign.Long tokens statement-no_long first)) ∙ read)
     (step _ (others, after) more_entries refl)
 
-block-behind : (room : ℕ) (entries : List Statement) (opening closing : Token) (us after : List Token)
+block-complete : (room : ℕ) (entries : List Statement) (opening closing : Token) (us after : List Token)
     → opening.kind ≡ k.OpenCurly
     → entries_within (entry_at room (statement_at room)) (suc (length (us ++ closing ∷ after))) (us ++ closing ∷ after)
     ≡ Some (entries, after)
     → statement_at (suc room) ((opening ∷ (us ++ closing ∷ [])) ++ after) ≡ Some (tree.Block (raw_joined entries), after)
 unfolding statement_at entries_at block_at
-block-behind room entries opening closing us after is read =
+block-complete room entries opening closing us after is read =
     ap (λ (l : List Token). statement_at (suc room) (opening ∷ l)) (append_assoc us (closing ∷ []) after)
     ∙ ap (λ kind. statement_by room (statement_at room) kind opening (us ++ closing ∷ after)) is
     ∙ step _ (entries, after) read refl
 
-short-behind : (room : ℕ) (kind : Kind) (s : Statement) (word : Token) (others after : List Token) → word.kind ≡ kind
+short-complete : (room : ℕ) (kind : Kind) (s : Statement) (word : Token) (others after : List Token) → word.kind ≡ kind
     → statement_by room (statement_at room) kind word others ≡ Some (s, after)
     → statement_at (suc room) (word ∷ others) ≡ Some (s, after)
 unfolding statement_at
-short-behind room kind s word others after is read = ap (λ k. statement_by room (statement_at room) k word others) is ∙ read
+short-complete room kind s word others after is read = ap (λ k. statement_by room (statement_at room) k word others) is ∙ read
 
-return-behind : (room : ℕ) (e : RawExpression) (word semicolon : Token) (us after : List Token) → word.kind ≡ k.Return
+return-complete : (room : ℕ) (e : RawExpression) (word semicolon : Token) (us after : List Token) → word.kind ≡ k.Return
     → semicolon.kind ≡ k.Semicolon → SpellsExpression e us → expression_depth e ≤ room
     → statement_at (suc room) ((word ∷ (us ++ semicolon ∷ [])) ++ after) ≡ Some (tree.Return e, after)
-return-behind room e word semicolon us after a b spells low =
+return-complete room e word semicolon us after is ends spells low =
     ap (λ (l : List Token). statement_at (suc room) (word ∷ l)) (append_assoc us (semicolon ∷ []) after)
-    ∙ short-behind room k.Return (tree.Return e) word (us ++ semicolon ∷ after) after a
-    (step _ (e, semicolon ∷ after) (shallow-behind room e us (semicolon ∷ after) spells
-    (ends-at k.Semicolon semicolon after b refl (λ asks. cc)) low) (ended-here (tree.Return e) semicolon after b))
+    ∙ short-complete room k.Return (tree.Return e) word (us ++ semicolon ∷ after) after is
+    (step _ (e, semicolon ∷ after) (shallow-complete room e us (semicolon ∷ after) spells
+    (ends-at k.Semicolon semicolon after ends refl (λ asks. cc)) low) (ended-here (tree.Return e) semicolon after ends))
 
 mark-read : (room number : ℕ) (semicolon : Token) (us after : List Token) → semicolon.kind ≡ k.Semicolon
     → SpellsMark number us → statement_at (suc room) ((us ++ semicolon ∷ []) ++ after) ≡ Some (tree.Mark number, after)
-mark-read room _ semicolon _ after is (SpellsMark.mark number word opening constant closing a b c d) =
-    short-behind room k.MarkWord (tree.Mark number) word (opening ∷ constant ∷ closing ∷ semicolon ∷ after) after a
-    (step _ (number, semicolon ∷ after) (mark-behind number opening constant closing (semicolon ∷ after) b c d)
+mark-read room _ semicolon _ after is (SpellsMark.mark number word opening constant closing is_mark opens is_constant
+    closes) =
+    short-complete room k.MarkWord (tree.Mark number) word (opening ∷ constant ∷ closing ∷ semicolon ∷ after) after is_mark
+    (step _ (number, semicolon ∷ after) (mark-complete number opening constant closing
+    (semicolon ∷ after) opens is_constant closes)
     (ended-here (tree.Mark number) semicolon after is))
 
 mutual
   -- What spells a statement is read as it, where its depth leaves room and no `else` behind it belongs to it.
-  pub statement-behind : (s : Statement) (us : List Token) → SpellsStatement s us → (room : ℕ) (after : List Token)
+  pub statement-complete : (s : Statement) (us : List Token) → SpellsStatement s us → (room : ℕ) (after : List Token)
       → statements_depth (s tree.Nil) ≤ room → (ends_open (s tree.Nil) ≡ true → begins sign.Else after ≡ false)
       → statement_at room (us ++ after) ≡ Some (s, after)
-  statement-behind s us spells zero after low follows = absurd (omega (arith, low, positive s us spells))
-  statement-behind _ _ (SpellsStatement.block entries opening closing us a b spells) (suc room) after low follows =
-      block-behind room entries opening closing us after a
-      (entries-behind entries us spells room (suc (length (us ++ closing ∷ after))) closing after (omega (arith, low))
-      (omega (arith, length-append us (closing ∷ after))) b)
-  statement-behind _ _ (SpellsStatement.empty semicolon a) (suc room) after low follows =
-      short-behind room k.Semicolon tree.Empty semicolon after after a refl
-  statement-behind s _ (SpellsStatement.simple _ semicolon us a spells) (suc room) after low follows =
-      simple-read room s semicolon us after a spells low
-  statement-behind _ _ (SpellsStatement.if_alone cond first word opening closing us vs a b c e s) (suc room) after low
+  statement-complete s us spells zero after low follows = absurd (omega (arith, low, positive s us spells))
+  statement-complete _ _ (SpellsStatement.block entries opening closing us is closes spells) (suc room) after low follows =
+      block-complete room entries opening closing us after is
+      (entries-complete entries us spells room (suc (length (us ++ closing ∷ after))) closing after (omega (arith, low))
+      (omega (arith, length-append us (closing ∷ after))) closes)
+  statement-complete _ _ (SpellsStatement.empty semicolon is) (suc room) after low follows =
+      short-complete room k.Semicolon tree.Empty semicolon after after is refl
+  statement-complete s _ (SpellsStatement.simple _ semicolon us ends spells) (suc room) after low follows =
+      simple-read room s semicolon us after ends spells low
+  statement-complete _ _ (SpellsStatement.if_alone cond first word opening closing us vs is opens closes spells_cond
+      spells_first) (suc room) after low
       follows =
-      if-behind room cond first word opening closing us vs after a b c e (omega (arith, low))
-      (statement-behind first vs s room after (omega (arith, low)) (λ is_open. follows refl)) (follows refl)
-  statement-behind _ _ (SpellsStatement.if_else cond first second word opening closing other us vs ws a b c d e s shut t)
+      if-complete room cond first word opening closing us vs after is opens closes spells_cond (omega (arith, low))
+      (statement-complete first vs spells_first room after (omega (arith, low)) (λ is_open. follows refl)) (follows refl)
+  statement-complete _ _ (SpellsStatement.if_else cond first second word opening closing other us vs ws is opens
+      closes is_else spells_cond spells_first shut spells_second)
       (suc room) after low follows =
-      if_else-behind room cond first second word opening closing other us vs ws after a b c d e (omega (arith, low))
-      (statement-behind first vs s room (other ∷ (ws ++ after)) (omega (arith, low)) (λ is_open. absurd (closed_for (ends_open (raw_one first)) shut is_open)))
-      (statement-behind second ws t room after (omega (arith, low)) follows)
-  statement-behind _ _ (SpellsStatement.while cond body word opening closing us vs a b c e s) (suc room) after low follows =
-      while-behind room cond body word opening closing us vs after a b c e (omega (arith, low))
-      (statement-behind body vs s room after (omega (arith, low)) follows)
-  statement-behind _ _ (SpellsStatement.do_while body cond first word opening closing semicolon us vs a b c d e s t)
+      if_else-complete room cond first second word opening closing other us vs ws after is opens closes is_else
+      spells_cond (omega (arith, low))
+      (statement-complete first vs spells_first room (other ∷ (ws ++ after)) (omega (arith, low)) (λ is_open. absurd
+      (closed_for (ends_open (raw_one first)) shut is_open)))
+      (statement-complete second ws spells_second room after (omega (arith, low)) follows)
+  statement-complete _ _ (SpellsStatement.while cond body word opening closing us vs is opens closes spells_cond
+      spells_body) (suc room) after low follows =
+      while-complete room cond body word opening closing us vs after is opens closes spells_cond (omega (arith, low))
+      (statement-complete body vs spells_body room after (omega (arith, low)) follows)
+  statement-complete _ _ (SpellsStatement.do_while body cond first word opening closing semicolon us vs is is_while
+      opens closes ends spells_body spells_cond)
       (suc room) after low follows =
-      do-behind room body cond first word opening closing semicolon us vs after a b c d e t (omega (arith, low))
-      (λ others. statement-behind body us s room (word ∷ others) (omega (arith, low)) (λ is_open. kind-not sign.Else word k.While b refl))
-  statement-behind _ _ (SpellsStatement.for start cond step body word opening first second closing us vs ws xs a b c d e p q r s)
+      do-complete room body cond first word opening closing semicolon us vs after is is_while opens closes ends
+      spells_cond (omega (arith, low))
+      (λ others. statement-complete body us spells_body room (word ∷ others) (omega (arith, low))
+      (λ is_open. kind-not sign.Else word k.While is_while refl))
+  statement-complete _ _ (SpellsStatement.for start cond step body word opening first second closing us vs ws xs is
+      opens ends_first ends_second closes spells_start spells_cond spells_step spells_body)
       (suc room) after low follows =
-      for-behind room start cond step body word opening first second closing us vs ws xs after a b c d e
-      (within-optional SpellsStart room start us p (omega (arith, low))) (shallow-optional room cond vs q (omega (arith, low)))
-      (within-optional SpellsSimple room step ws r (omega (arith, low)))
-      (statement-behind body xs s room after (omega (arith, low)) follows)
-  statement-behind _ _ (SpellsStatement.break word semicolon a b) (suc room) after low follows =
-      short-behind room k.Break (tree.Break word.line) word (semicolon ∷ after) after a
-      (ended-here (tree.Break word.line) semicolon after b)
-  statement-behind _ _ (SpellsStatement.continue word semicolon a b) (suc room) after low follows =
-      short-behind room k.Continue (tree.Continue word.line) word (semicolon ∷ after) after a
-      (ended-here (tree.Continue word.line) semicolon after b)
-  statement-behind _ _ (SpellsStatement.return e word semicolon us a b spells) (suc room) after low follows =
-      return-behind room e word semicolon us after a b spells (omega (arith, low))
-  statement-behind _ _ (SpellsStatement.mark number semicolon us a spells) (suc room) after low follows =
-      mark-read room number semicolon us after a spells
+      for-complete room start cond step body word opening first second closing us vs ws xs after is opens ends_first
+      ends_second closes
+      (within-optional SpellsStart room start us spells_start (omega (arith, low)))
+      (shallow-optional room cond vs spells_cond (omega (arith, low)))
+      (within-optional SpellsSimple room step ws spells_step (omega (arith, low)))
+      (statement-complete body xs spells_body room after (omega (arith, low)) follows)
+  statement-complete _ _ (SpellsStatement.break word semicolon is ends) (suc room) after low follows =
+      short-complete room k.Break (tree.Break word.line) word (semicolon ∷ after) after is
+      (ended-here (tree.Break word.line) semicolon after ends)
+  statement-complete _ _ (SpellsStatement.continue word semicolon is ends) (suc room) after low follows =
+      short-complete room k.Continue (tree.Continue word.line) word (semicolon ∷ after) after is
+      (ended-here (tree.Continue word.line) semicolon after ends)
+  statement-complete _ _ (SpellsStatement.return e word semicolon us is ends spells) (suc room) after low follows =
+      return-complete room e word semicolon us after is ends spells (omega (arith, low))
+  statement-complete _ _ (SpellsStatement.mark number semicolon us ends spells) (suc room) after low follows =
+      mark-read room number semicolon us after ends spells
 
   -- What spells entries is read as them, up to a brace.
-  pub entries-behind : (entries : List Statement) (us : List Token) → SpellsEntries entries us → (room n : ℕ)
+  pub entries-complete : (entries : List Statement) (us : List Token) → SpellsEntries entries us → (room n : ℕ)
       (closing : Token) (after : List Token) → statements_depth (raw_joined entries) ≤ room → length us < n
       → closing.kind ≡ k.CloseCurly
       → entries_within (entry_at room (statement_at room)) n (us ++ closing ∷ after) ≡ Some (entries, after)
-  entries-behind entries us spells room zero closing after low enough is = absurd (omega (arith, enough))
-  entries-behind _ _ SpellsEntries.none room (suc n) closing after low enough is =
+  entries-complete entries us spells room zero closing after low enough is = absurd (omega (arith, enough))
+  entries-complete _ _ SpellsEntries.none room (suc n) closing after low enough is =
       ap (λ behind. entries_by behind (entry_at room (statement_at room) (closing ∷ after) >>= λ x.
       entries_within (entry_at room (statement_at room)) n x.1 >>= λ y. Some (x.0 ∷ y.0, y.1)))
       (behind_sign-here sign.CloseCurly closing after is)
-  entries-behind _ _ (SpellsEntries.declaration s others semicolon us vs a spells more_entries) room (suc n) closing after
+  entries-complete _ _ (SpellsEntries.declaration s others semicolon us vs ends spells more_entries) room
+      (suc n) closing after
       low enough is =
       let level = declaration-level s us spells (raw_joined others) in
-      declaration-entry room n s others semicolon closing us vs after a spells (omega (arith, low, level))
-      (entries-behind others vs more_entries room n closing after (omega (arith, low, level))
+      declaration-entry room n s others semicolon closing us vs after ends spells (omega (arith, low, level))
+      (entries-complete others vs more_entries room n closing after (omega (arith, low, level))
       (omega (arith, enough, length-append us (semicolon ∷ vs))) is)
-  entries-behind _ _ (SpellsEntries.statement s others us vs spells more_entries) room (suc n) closing after low enough is =
+  entries-complete _ _ (SpellsEntries.statement s others us vs spells more_entries) room (suc n) closing after low enough is =
       let level = statement-level s us spells (raw_joined others) in
       let some = FirstIs-some starts_statement us (statement-first s us spells) in
       statement-entry room n s others closing us vs after spells
-      (statement-behind s us spells room (vs ++ closing ∷ after) (omega (arith, low, level))
+      (statement-complete s us spells room (vs ++ closing ∷ after) (omega (arith, low, level))
       (λ is_open. entries-no_else others vs closing after more_entries is))
-      (entries-behind others vs more_entries room n closing after (omega (arith, low, level))
+      (entries-complete others vs more_entries room n closing after (omega (arith, low, level))
       (omega (arith, enough, some, length-append us vs)) is)

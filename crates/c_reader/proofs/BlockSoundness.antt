@@ -1,29 +1,24 @@
 -- What is read as a statement is spelled so, and is no deeper than its room: the statements that hold others.
-use Rattle.std.proofs.Common.{◌≡◌, ℕ, zero, suc, pos, ◌<◌, ◌≤◌, ◌+◌, max, Bool, true, false, if◌then◌else◌, List, [], ◌∷◌, ◌++◌, length, length-append, Option, Some, None, refl, sym, ap, subst, ◌∙◌, append_assoc, arith}
+use Rattle.std.proofs.Common.{◌≡◌, ℕ, zero, suc, ◌<◌, ◌≤◌, Bool, true, false, if◌then◌else◌, List, [], ◌∷◌, ◌++◌, length, length-append, Option, Some, None, refl, sym, ap, subst, ◌∙◌, append_assoc, arith}
 use Rattle.c_ast.specs.RawTree as tree
 use Rattle.c_ast.specs.RawTree.{RawExpression, RawCondition, RawDeclared, RawStatements}
 use Rattle.c_ast.specs.RawView.{raw_joined, raw_one, raw_optional, raw_branches}
-use Rattle.c_tokens.specs.declared.kind.Kind.{Kind}
 use Rattle.c_tokens.specs.declared.kind.Kind.TheVariants as k
 use Rattle.c_tokens.specs.declared.token.Token.{Token}
-use Rattle.c_reader.specs.declared.sign.Sign.{Sign}
 use Rattle.c_reader.specs.declared.sign.Sign.TheVariants as sign
-use Rattle.c_reader.specs.Expressions.{SpellsExpression, expression_depth}
 use Rattle.c_reader.specs.ReadExpressions.{◌>>=◌}
-use Rattle.c_reader.specs.Declarations.{Statement, SpellsDeclaration, SpellsOptional}
-use Rattle.c_reader.specs.Declarations as declared
-use Rattle.c_reader.specs.Statements as spelled
-use Rattle.c_reader.specs.Statements.{SpellsStatement, SpellsEntries, SpellsSimple, SpellsStart, SpellsCondition, updated, ends_open}
-use Rattle.c_reader.specs.Depth.{condition_depth, declarators_depth, statements_depth}
-use Rattle.c_reader.specs.Signs.{is_sign, behind_sign, begins}
+use Rattle.c_reader.specs.Declarations.{Statement, SpellsOptional}
+use Rattle.c_reader.specs.Statements.{SpellsStatement, SpellsEntries, SpellsSimple, SpellsStart, SpellsCondition, ends_open}
+use Rattle.c_reader.specs.Depth.{condition_depth, statements_depth}
+use Rattle.c_reader.specs.Signs.{behind_sign, begins}
 use Rattle.c_reader.specs.ReadDeclarations.{Reads, shallow_at, begins_type, declaration_at, optional, unless}
-use Rattle.c_reader.specs.ReadStatements.{simple_at, mark_at, condition_at, start_at, if_at, while_at, do_at, head_at, for_at, ended, entry_at, entries_by, entries_within, entries_at, statement_by, statement_at}
-use Rattle.c_reader.proofs.Reading.{stepped, behind_sign-found, begins-here, begins-none, SignFirst, HasSign, Front, IsSound, given, append_parts, cons_parts}
+use Rattle.c_reader.specs.ReadStatements.{simple_at, condition_at, start_at, if_at, while_at, do_at, head_at, for_at, ended, entry_at, entries_by, entries_within, entries_at}
+use Rattle.c_reader.proofs.Reading.{stepped, behind_sign-found, begins-here, begins-none, SignFirst, given, append_parts, cons_parts}
 use Rattle.c_reader.proofs.Shallow.{shallow-sound, ShallowAt}
 use Rattle.c_reader.proofs.Firsts.{FirstIs-some, starts_statement, statement-first}
 use Rattle.c_reader.proofs.Levels.{PutsInFront, declaration-level, statement-level}
-use Rattle.c_reader.proofs.Declaring.{SpellsWithin, declaration_at-sound, unless-sound}
-use Rattle.c_reader.proofs.Stating.{SpellsShallowCondition, simple_at-sound, mark_at-sound, condition_at-sound, start_at-sound}
+use Rattle.c_reader.proofs.DeclarationSoundness.{SpellsWithin, declaration_at-sound, unless-sound}
+use Rattle.c_reader.proofs.SimpleSoundness.{SpellsShallowCondition, simple_at-sound, condition_at-sound, start_at-sound}
 
 -- The statement stands at the front, these tokens follow, and it is no deeper than this. Where it ends in an `if` without
 -- an `else`, none follows.
@@ -51,19 +46,26 @@ while_at-sound room inside word tokens read sound is found =
     let last = stepped (behind_sign sign.CloseRound cond.0.1) _ read cond.2 in
     let body = stepped (inside last.0) _ read last.2 in
     let opening = behind_sign-found sign.OpenRound tokens head.0 head.1 in
-    let c = condition_at-sound room head.0 cond.0 cond.1 in
+    let cond_first = condition_at-sound room head.0 cond.0 cond.1 in
     let closing = behind_sign-found sign.CloseRound cond.0.1 last.0 last.1 in
-    let b = sound last.0 body.0 body.1 in
-    subst (λ r. StatementFirst (suc room) (word ∷ tokens) r.0 r.1) (given body.2) (record {
-      front = word ∷ opening.token ∷ (c.front ++ closing.token ∷ b.front);
-      parts = cons_parts word (opening.token ∷ (c.front ++ closing.token ∷ b.front)) body.0.1 (word ∷ tokens) tokens refl
-          (cons_parts opening.token (c.front ++ closing.token ∷ b.front) body.0.1 tokens head.0 opening.parts
-          (append_parts c.front (closing.token ∷ b.front) body.0.1 head.0 cond.0.1 c.parts
-          (cons_parts closing.token b.front body.0.1 cond.0.1 last.0 closing.parts b.parts)));
-      spells = SpellsStatement.while cond.0.0 body.0.0 word opening.token closing.token c.front b.front is opening.has
-          closing.has c.spells.0 b.spells;
-      within = omega (arith, c.spells.1, b.within);
-      closed = b.closed;
+    let body_first = sound last.0 body.0 body.1 in
+    subst (λ r. StatementFirst (suc room) (word ∷ tokens) r.0 r.1) {x = (
+      tree.While cond.0.0
+          (raw_one body.0.0),
+      body.0.1,
+    )} (given body.2) (record {
+      front = word ∷ opening.token ∷ (cond_first.front ++ closing.token ∷ body_first.front);
+      parts = cons_parts word (opening.token ∷ (cond_first.front ++ closing.token ∷ body_first.front)) body.0.1
+          (word ∷ tokens) tokens refl
+          (cons_parts opening.token (cond_first.front ++ closing.token ∷ body_first.front) body.0.1 tokens head.0
+          opening.parts
+          (append_parts cond_first.front (closing.token ∷ body_first.front) body.0.1 head.0 cond.0.1 cond_first.parts
+          (cons_parts closing.token body_first.front body.0.1 cond.0.1 last.0 closing.parts body_first.parts)));
+      spells = SpellsStatement.while cond.0.0 body.0.0 word opening.token closing.token cond_first.front
+          body_first.front is opening.has
+          closing.has cond_first.spells.0 body_first.spells;
+      within = omega (arith, cond_first.spells.1, body_first.within);
+      closed = body_first.closed;
     })
 
 -- what a `;` ends
@@ -71,8 +73,10 @@ pub ended-found : {X : Type 0} (x : X) (tokens : List Token) (read : X × List T
     → SignFirst sign.Semicolon tokens read.1 × (x ≡ read.0)
 ended-found x tokens read found =
     let after = stepped (behind_sign sign.Semicolon tokens) _ read found in
-    let same = given after.2 in
-    (subst (λ r. SignFirst sign.Semicolon tokens r.1) same (behind_sign-found sign.Semicolon tokens after.0 after.1), ap (λ r. r.0) same)
+    let same = given after.2 in (
+      subst (λ r. SignFirst sign.Semicolon tokens r.1) same (behind_sign-found sign.Semicolon tokens after.0 after.1),
+      ap (λ r. r.0) same,
+    )
 
 pub do_at-sound : (room : ℕ) (inside : List Token → Reads Statement) (word : Token) (tokens : List Token)
     (read : Statement × List Token) → AreStatements room inside → word.kind ≡ k.Do
@@ -85,24 +89,32 @@ do_at-sound room inside word tokens read sound is found =
     let cond = stepped (condition_at room head.0) _ read head.2 in
     let last = stepped (behind_sign sign.CloseRound cond.0.1) _ read cond.2 in
     let after = stepped (behind_sign sign.Semicolon last.0) _ read last.2 in
-    let b = sound tokens body.0 body.1 in
+    let body_first = sound tokens body.0 body.1 in
     let while_word = behind_sign-found sign.While body.0.1 behind_word.0 behind_word.1 in
     let opening = behind_sign-found sign.OpenRound behind_word.0 head.0 head.1 in
-    let c = condition_at-sound room head.0 cond.0 cond.1 in
+    let cond_first = condition_at-sound room head.0 cond.0 cond.1 in
     let closing = behind_sign-found sign.CloseRound cond.0.1 last.0 last.1 in
     let semicolon = behind_sign-found sign.Semicolon last.0 after.0 after.1 in
     let tail : List Token = closing.token ∷ semicolon.token ∷ [] in
-    subst (λ r. StatementFirst (suc room) (word ∷ tokens) r.0 r.1) (given after.2) (record {
-      front = word ∷ (b.front ++ while_word.token ∷ opening.token ∷ (c.front ++ tail));
-      parts = cons_parts word (b.front ++ while_word.token ∷ opening.token ∷ (c.front ++ tail)) after.0 (word ∷ tokens) tokens refl
-          (append_parts b.front (while_word.token ∷ opening.token ∷ (c.front ++ tail)) after.0 tokens body.0.1 b.parts
-          (cons_parts while_word.token (opening.token ∷ (c.front ++ tail)) after.0 body.0.1 behind_word.0 while_word.parts
-          (cons_parts opening.token (c.front ++ tail) after.0 behind_word.0 head.0 opening.parts
-          (append_parts c.front tail after.0 head.0 cond.0.1 c.parts
+    subst (λ r. StatementFirst (suc room) (word ∷ tokens) r.0 r.1) {x = (
+      tree.Do
+          (raw_one body.0.0) cond.0.0,
+      after.0,
+    )} (given after.2) (record {
+      front = word ∷ (body_first.front ++ while_word.token ∷ opening.token ∷ (cond_first.front ++ tail));
+      parts = cons_parts word (body_first.front ++ while_word.token ∷ opening.token ∷
+          (cond_first.front ++ tail)) after.0 (word ∷ tokens) tokens refl
+          (append_parts body_first.front (while_word.token ∷ opening.token ∷
+          (cond_first.front ++ tail)) after.0 tokens body.0.1 body_first.parts
+          (cons_parts while_word.token (opening.token ∷ (cond_first.front ++ tail)) after.0 body.0.1 behind_word.0
+          while_word.parts
+          (cons_parts opening.token (cond_first.front ++ tail) after.0 behind_word.0 head.0 opening.parts
+          (append_parts cond_first.front tail after.0 head.0 cond.0.1 cond_first.parts
           (cons_parts closing.token (semicolon.token ∷ []) after.0 cond.0.1 last.0 closing.parts semicolon.parts)))));
       spells = SpellsStatement.do_while body.0.0 cond.0.0 word while_word.token opening.token closing.token semicolon.token
-          b.front c.front is while_word.has opening.has closing.has semicolon.has b.spells c.spells.0;
-      within = omega (arith, b.within, c.spells.1);
+          body_first.front cond_first.front is while_word.has opening.has closing.has semicolon.has body_first.spells
+          cond_first.spells.0;
+      within = omega (arith, body_first.within, cond_first.spells.1);
       closed = λ is_open. absurd cc;
     })
 
@@ -121,39 +133,43 @@ branches-by : (room : ℕ) (inside : List Token → Reads Statement) (word : Tok
     → SignFirst sign.CloseRound middle last → StatementFirst room last s rest → behind_sign sign.Else rest ≡ behind
     → (optional behind rest inside >>= λ second. Some (raw_branches cond (raw_one s) second.0, second.1)) ≡ Some read
     → StatementFirst (suc room) (word ∷ tokens) read.0 read.1
-branches-by room inside word tokens head middle last rest cond s None read sound is opening c closing first other found =
+branches-by room inside word tokens head middle last rest cond s None read sound is opening cond_first closing first
+    other found =
     subst (λ r. StatementFirst (suc room) (word ∷ tokens) r.0 r.1) (given found) (record {
-      front = word ∷ opening.token ∷ (c.at.front ++ closing.token ∷ first.front);
-      parts = cons_parts word (opening.token ∷ (c.at.front ++ closing.token ∷ first.front)) rest (word ∷ tokens) tokens refl
-          (cons_parts opening.token (c.at.front ++ closing.token ∷ first.front) rest tokens head opening.parts
-          (append_parts c.at.front (closing.token ∷ first.front) rest head middle c.at.parts
+      front = word ∷ opening.token ∷ (cond_first.at.front ++ closing.token ∷ first.front);
+      parts = cons_parts word (opening.token ∷ (cond_first.at.front ++ closing.token ∷ first.front)) rest
+          (word ∷ tokens) tokens refl
+          (cons_parts opening.token (cond_first.at.front ++ closing.token ∷ first.front) rest tokens head opening.parts
+          (append_parts cond_first.at.front (closing.token ∷ first.front) rest head middle cond_first.at.parts
           (cons_parts closing.token first.front rest middle last closing.parts first.parts)));
-      spells = SpellsStatement.if_alone cond s word opening.token closing.token c.at.front first.front is opening.has
-          closing.has c.at.spells first.spells;
-      within = omega (arith, c.within, first.within);
+      spells = SpellsStatement.if_alone cond s word opening.token closing.token cond_first.at.front first.front is opening.has
+          closing.has cond_first.at.spells first.spells;
+      within = omega (arith, cond_first.within, first.within);
       closed = λ is_open. begins-none sign.Else rest other;
     })
-branches-by room inside word tokens head middle last rest cond s (Some others) read sound is opening c closing first other found =
+branches-by room inside word tokens head middle last rest cond s (Some others) read sound is opening cond_first
+    closing first other found =
     let outer = stepped (optional (Some others) rest inside) _ read found in
     let second = stepped (inside others) _ outer.0 outer.1 in
     let same : (tree.IfElse cond (raw_one s) (raw_one second.0.0), second.0.1) ≡ read =
     ap (λ (r : Option Statement × List Token). (raw_branches cond (raw_one s) r.0, r.1)) (given second.2) ∙ given outer.2 in
     let else_word = behind_sign-found sign.Else rest others other in
-    let t = sound others second.0 second.1 in
-    let back : List Token = first.front ++ else_word.token ∷ t.front in
+    let second_first = sound others second.0 second.1 in
+    let back : List Token = first.front ++ else_word.token ∷ second_first.front in
     subst (λ r. StatementFirst (suc room) (word ∷ tokens) r.0 r.1) same (record {
-      front = word ∷ opening.token ∷ (c.at.front ++ closing.token ∷ back);
-      parts = cons_parts word (opening.token ∷ (c.at.front ++ closing.token ∷ back)) second.0.1 (word ∷ tokens) tokens refl
-          (cons_parts opening.token (c.at.front ++ closing.token ∷ back) second.0.1 tokens head opening.parts
-          (append_parts c.at.front (closing.token ∷ back) second.0.1 head middle c.at.parts
+      front = word ∷ opening.token ∷ (cond_first.at.front ++ closing.token ∷ back);
+      parts = cons_parts word (opening.token ∷ (cond_first.at.front ++ closing.token ∷ back)) second.0.1
+          (word ∷ tokens) tokens refl
+          (cons_parts opening.token (cond_first.at.front ++ closing.token ∷ back) second.0.1 tokens head opening.parts
+          (append_parts cond_first.at.front (closing.token ∷ back) second.0.1 head middle cond_first.at.parts
           (cons_parts closing.token back second.0.1 middle last closing.parts
-          (append_parts first.front (else_word.token ∷ t.front) second.0.1 last rest first.parts
-          (cons_parts else_word.token t.front second.0.1 rest others else_word.parts t.parts)))));
-      spells = SpellsStatement.if_else cond s second.0.0 word opening.token closing.token else_word.token c.at.front
-          first.front t.front is opening.has closing.has else_word.has c.at.spells first.spells
-          (closed-by s rest others (ends_open (s tree.Nil)) refl first.closed else_word) t.spells;
-      within = omega (arith, c.within, first.within, t.within);
-      closed = t.closed;
+          (append_parts first.front (else_word.token ∷ second_first.front) second.0.1 last rest first.parts
+          (cons_parts else_word.token second_first.front second.0.1 rest others else_word.parts second_first.parts)))));
+      spells = SpellsStatement.if_else cond s second.0.0 word opening.token closing.token else_word.token cond_first.at.front
+          first.front second_first.front is opening.has closing.has else_word.has cond_first.at.spells first.spells
+          (closed-by s rest others (ends_open (s tree.Nil)) refl first.closed else_word) second_first.spells;
+      within = omega (arith, cond_first.within, first.within, second_first.within);
+      closed = second_first.closed;
     })
 
 pub if_at-sound : (room : ℕ) (inside : List Token → Reads Statement) (word : Token) (tokens : List Token)
@@ -218,35 +234,43 @@ head_at-sound room tokens read found =
     let step = stepped (unless (begins sign.CloseRound last.0) last.0 (simple_at room)) _ read last.2 in
     let body = stepped (behind_sign sign.CloseRound step.0.1) _ read step.2 in
     let opening = behind_sign-found sign.OpenRound tokens head.0 head.1 in
-    let a = unless-sound (SpellsWithin SpellsStart room) sign.Semicolon (start_at room) (start_at-sound room) head.0 start.0 start.1 in
+    let start_first = unless-sound (SpellsWithin SpellsStart room) sign.Semicolon (start_at room)
+    (start_at-sound room) head.0 start.0 start.1 in
     let first = behind_sign-found sign.Semicolon start.0.1 middle.0 middle.1 in
-    let b = unless-sound (SpellsShallowCondition room) sign.Semicolon (condition_at room) (condition_at-sound room) middle.0 cond.0 cond.1 in
+    let cond_first = unless-sound (SpellsShallowCondition room) sign.Semicolon (condition_at room)
+    (condition_at-sound room) middle.0 cond.0 cond.1 in
     let second = behind_sign-found sign.Semicolon cond.0.1 last.0 last.1 in
-    let c = unless-sound (SpellsWithin SpellsSimple room) sign.CloseRound (simple_at room) (simple_at-sound room) last.0 step.0 step.1 in
+    let step_first = unless-sound (SpellsWithin SpellsSimple room) sign.CloseRound (simple_at room)
+    (simple_at-sound room) last.0 step.0 step.1 in
     let closing = behind_sign-found sign.CloseRound step.0.1 body.0 body.1 in
-    subst (λ r. HeadFirst room tokens r.0.0 r.0.1 r.0.2 r.1) (given body.2) (record {
+    subst (λ r. HeadFirst room tokens r.0.0 r.0.1 r.0.2 r.1) {x = ((start.0.0, cond.0.0, step.0.0), body.0)}
+    (given body.2) (record {
       opening = opening.token;
       first = first.token;
       second = second.token;
       closing = closing.token;
-      us = a.front;
-      vs = b.front;
-      ws = c.front;
+      us = start_first.front;
+      vs = cond_first.front;
+      ws = step_first.front;
       parts = λ xs behind is.
-          cons_parts opening.token (a.front ++ first.token ∷ (b.front ++ second.token ∷ (c.front ++ closing.token ∷ xs))) behind tokens head.0 opening.parts
-          (append_parts a.front (first.token ∷ (b.front ++ second.token ∷ (c.front ++ closing.token ∷ xs))) behind head.0 start.0.1 a.parts
-          (cons_parts first.token (b.front ++ second.token ∷ (c.front ++ closing.token ∷ xs)) behind start.0.1 middle.0 first.parts
-          (append_parts b.front (second.token ∷ (c.front ++ closing.token ∷ xs)) behind middle.0 cond.0.1 b.parts
-          (cons_parts second.token (c.front ++ closing.token ∷ xs) behind cond.0.1 last.0 second.parts
-          (append_parts c.front (closing.token ∷ xs) behind last.0 step.0.1 c.parts
+          cons_parts opening.token (start_first.front ++ first.token ∷ (cond_first.front ++ second.token ∷
+          (step_first.front ++ closing.token ∷ xs))) behind tokens head.0 opening.parts
+          (append_parts start_first.front (first.token ∷ (cond_first.front ++ second.token ∷
+          (step_first.front ++ closing.token ∷ xs))) behind head.0 start.0.1 start_first.parts
+          (cons_parts first.token (cond_first.front ++ second.token ∷ (step_first.front ++ closing.token ∷ xs))
+          behind start.0.1 middle.0 first.parts
+          (append_parts cond_first.front (second.token ∷ (step_first.front ++ closing.token ∷ xs)) behind middle.0
+          cond.0.1 cond_first.parts
+          (cons_parts second.token (step_first.front ++ closing.token ∷ xs) behind cond.0.1 last.0 second.parts
+          (append_parts step_first.front (closing.token ∷ xs) behind last.0 step.0.1 step_first.parts
           (cons_parts closing.token xs behind step.0.1 body.0 closing.parts is))))));
       opening_is = opening.has;
       first_is = first.has;
       second_is = second.has;
       closing_is = closing.has;
-      spells_start = statement-split SpellsStart room start.0.0 a.front a.spells;
-      spells_cond = condition-split room cond.0.0 b.front b.spells;
-      spells_step = statement-split SpellsSimple room step.0.0 c.front c.spells;
+      spells_start = statement-split SpellsStart room start.0.0 start_first.front start_first.spells;
+      spells_cond = condition-split room cond.0.0 cond_first.front cond_first.spells;
+      spells_step = statement-split SpellsSimple room step.0.0 step_first.front step_first.spells;
     })
 
 pub for_at-sound : (room : ℕ) (inside : List Token → Reads Statement) (word : Token) (tokens : List Token)
@@ -256,17 +280,32 @@ unfolding for_at
 for_at-sound room inside word tokens read sound is found =
     let head = stepped (head_at room tokens) _ read found in
     let body = stepped (inside head.0.1) _ read head.2 in
-    let h = head_at-sound room tokens head.0 head.1 in
-    let b = sound head.0.1 body.0 body.1 in
-    let whole : List Token = h.opening ∷ (h.us ++ h.first ∷ (h.vs ++ h.second ∷ (h.ws ++ h.closing ∷ b.front))) in
-    subst (λ r. StatementFirst (suc room) (word ∷ tokens) r.0 r.1) (given body.2) (record {
+    let head_first = head_at-sound room tokens head.0 head.1 in
+    let body_first = sound head.0.1 body.0 body.1 in
+    let whole : List Token = head_first.opening ∷ (head_first.us ++ head_first.first ∷
+    (head_first.vs ++ head_first.second ∷ (head_first.ws ++ head_first.closing ∷ body_first.front))) in
+    subst (λ r. StatementFirst (suc room) (word ∷ tokens) r.0 r.1) {x = (
+      tree.For
+          (raw_optional head.0.0.0) head.0.0.1 (raw_optional head.0.0.2) (raw_one body.0.0),
+      body.0.1,
+    )} (given body.2)
+    (record {
       front = word ∷ whole;
-      parts = cons_parts word whole body.0.1 (word ∷ tokens) tokens refl (h.parts b.front body.0.1 b.parts);
-      spells = SpellsStatement.for head.0.0.0 head.0.0.1 head.0.0.2 body.0.0 word h.opening h.first h.second h.closing
-          h.us h.vs h.ws b.front is h.opening_is h.first_is h.second_is h.closing_is h.spells_start.0 h.spells_cond.0
-          h.spells_step.0 b.spells;
-      within = omega (arith, h.spells_start.1, h.spells_cond.1, h.spells_step.1, b.within);
-      closed = b.closed;
+      parts = cons_parts word whole body.0.1 (word ∷ tokens) tokens refl
+          (head_first.parts body_first.front body.0.1 body_first.parts);
+      spells = SpellsStatement.for head.0.0.0 head.0.0.1 head.0.0.2 body.0.0 word head_first.opening head_first.first
+          head_first.second head_first.closing
+          head_first.us head_first.vs head_first.ws body_first.front is head_first.opening_is head_first.first_is
+          head_first.second_is head_first.closing_is head_first.spells_start.0 head_first.spells_cond.0
+          head_first.spells_step.0 body_first.spells;
+      within = omega (
+        arith,
+        head_first.spells_start.1,
+        head_first.spells_cond.1,
+        head_first.spells_step.1,
+        body_first.within,
+      );
+      closed = body_first.closed;
     })
 
 -- ---- blocks
@@ -354,7 +393,8 @@ entries_within-sound room inside (suc n) tokens read sound found =
     go : (behind : Option (List Token)) → behind_sign sign.CloseCurly tokens ≡ behind
         → entries_by behind (entry_at room inside tokens >>= λ x. entries_within (entry_at room inside) n x.1 >>= λ y.
         Some (x.0 ∷ y.0, y.1)) ≡ Some read
-        → ((others : List Token) (r : List Statement × List Token) → entries_within (entry_at room inside) n others ≡ Some r → EntriesFirst room others r.0 r.1)
+        → ((others : List Token) (r : List Statement × List Token) → entries_within
+        (entry_at room inside) n others ≡ Some r → EntriesFirst room others r.0 r.1)
         → EntriesFirst room tokens read.0 read.1
     go (Some others) is same more =
         let closing = behind_sign-found sign.CloseCurly tokens others is in
