@@ -21,6 +21,7 @@ pub mod SimpleCompleteness
 pub mod StatementCompleteness
 pub mod UnitSoundness
 pub mod UnitCompleteness
+pub mod Shaped
 pub mod UnitLoop
 pub mod ShortStatements
 pub mod UnitSamples

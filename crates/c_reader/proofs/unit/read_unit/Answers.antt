@@ -1,5 +1,6 @@
 use Rattle.std.proofs.lemmas.Result.{err_from_is_err_and}
 use Rattle.c_reader.proofs.UnitCompleteness.{refused-deep}
+use Rattle.c_reader.proofs.Shaped.{shaped_unit}
 use Rattle.c_reader.proofs.UnitSoundness.{unit_at-sound}
 use Rattle.c_reader.proofs.unit.read_unit.Goals as goal
 
