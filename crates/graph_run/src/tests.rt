@@ -3,13 +3,14 @@ ghost use Rattle.std.specs.Prelude.{◌≡◌, [], ◌∷◌, length, pos, IfOk,
 ghost use Rattle.c_ast.specs.declared.expr.BinOp.TheVariants.{Add};
 ghost use Rattle.c_ast.specs.Tree as tree;
 ghost use Rattle.c_ast.specs.Tree.{Statements};
+ghost use Rattle.c_ast.specs.Narrow.{is_narrow};
 ghost use Rattle.c_ast.specs.View.{expression_of, put_in_front, statements_of};
 ghost use Rattle.c_ast.specs.Function.{program_of};
 ghost use Rattle.flow_graph.specs.Sums.{sums};
 
 use crate::{Skip, run};
 use c_ast::{BinOp, Expr, Func, Name, Place, Stmt, Trace, Var};
-use flow_graph::build;
+use flow_graph::{Graph, build};
 use sqlite_items::{Boxed, Items};
 use std::alloc::{AllocError, Global};
 use std::test::Fail;
@@ -134,37 +135,58 @@ fn shown(alloc: Global, answer: &Result<Trace, Skip>) -> Result<String, AllocErr
     Ok(out)
 }
 
+/// The graph of a function of one parameter.
+fn graph_of(alloc: Global, func: &Func) -> Result<Graph, AllocError>
+    requires { (program_of func.now).params ≡ 1 }
+    ensures { IfOk result (λ graph. graph.params ≡ 1) }
+{
+    let graph = build(alloc, func)?;
+    Ok(graph)
+}
+
+/// What comes of a run on this input.
+fn answer(alloc: Global, graph: &Graph, input: i128, marks: u32) -> Result<String, AllocError>
+    requires arity { graph.now.params ≡ 1 }
+    requires narrow { is_narrow input ≡ true }
+{
+    let answer = run(alloc, graph, &[input], marks);
+    shown(alloc, &answer)
+}
+
+/// The places of a graph, each with the variables in scope there.
+fn places(alloc: Global, graph: &Graph) -> Result<String, AllocError> {
+    let mut out = String::new(alloc);
+    for place in &graph.places(alloc)? {
+        write!(out, "{place:?}")?;
+        for x in &graph.vars_at(alloc, *place)? {
+            write!(out, " {x}")?;
+        }
+        out.push_str("; ")?;
+    }
+    Ok(out)
+}
+
 #[test]
 fn places_list_the_variables_in_scope(rt: HostRuntime) -> Result<(), Fail> {
     let alloc = rt.alloc();
-    let graph = build(alloc, &sum(alloc)?)?;
-    let rows = [
-        (Place::Entry, &[0][..]),
-        (Place::Mark(42), &[0, 1, 2][..]),
-        (Place::Exit, &[][..]),
-    ];
-    let places = graph.places(alloc)?;
-    assert_eq!(rt; places.len(), rows.len());
-    for (place, (want, variables)) in places.iter().zip(rows) {
-        assert_eq!(rt; *place, want);
-        let got = graph.vars_at(alloc, *place)?;
-        assert_eq!(rt; got.as_slice(), variables, "{place:?}");
-    }
+    let graph = graph_of(alloc, &sum(alloc)?)?;
+    let got = places(alloc, &graph)?;
+    assert_eq!(rt; got.as_str(), "Entry 0; Mark(42) 0 1 2; Exit; ");
     Ok(())
 }
 
 #[test]
 fn runs_pass_marks_or_are_skipped(rt: HostRuntime) -> Result<(), Fail> {
     let alloc = rt.alloc();
-    let graph = build(alloc, &sum(alloc)?)?;
-    let answer = shown(alloc, &run(alloc, &graph, &[2], 3))?;
-    assert_eq!(rt; answer.as_str(), "42: 2 0 0; 42: 2 1 0; 42: 2 2 1; 1");
-    let answer = shown(alloc, &run(alloc, &graph, &[2], 2))?;
-    assert_eq!(rt; answer.as_str(), "NotEnded");
-    let graph = build(alloc, &double(alloc)?)?;
-    let answer = shown(alloc, &run(alloc, &graph, &[HALF - 1], 0))?;
-    assert_eq!(rt; answer.as_str(), "1267650600228229401496703205374");
-    let answer = shown(alloc, &run(alloc, &graph, &[HALF], 0))?;
-    assert_eq!(rt; answer.as_str(), "Wide");
+    let graph = graph_of(alloc, &sum(alloc)?)?;
+    let got = answer(alloc, &graph, 2, 3)?;
+    assert_eq!(rt; got.as_str(), "42: 2 0 0; 42: 2 1 0; 42: 2 2 1; 1");
+    let got = answer(alloc, &graph, 2, 2)?;
+    assert_eq!(rt; got.as_str(), "NotEnded");
+    let graph = graph_of(alloc, &double(alloc)?)?;
+    let got = answer(alloc, &graph, HALF - 1, 0)?;
+    assert_eq!(rt; got.as_str(), "1267650600228229401496703205374");
+    let got = answer(alloc, &graph, HALF, 0)?;
+    assert_eq!(rt; got.as_str(), "Wide");
     Ok(())
 }
