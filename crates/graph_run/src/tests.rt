@@ -144,13 +144,26 @@ fn graph_of(alloc: Global, func: &Func) -> Result<Graph, AllocError>
     Ok(graph)
 }
 
-/// What comes of a run on this input.
-fn answer(alloc: Global, graph: &Graph, input: i128, marks: u32) -> Result<String, AllocError>
-    requires arity { graph.now.params ≡ 1 }
-    requires narrow { is_narrow input ≡ true }
+/// What comes of a run of the sum.
+fn run_sum(alloc: Global, input: i128, marks: u32) -> Result<String, AllocError>
+    requires { is_narrow input ≡ true }
 {
-    let answer = run(alloc, graph, &[input], marks);
-    shown(alloc, &answer)
+    let graph = graph_of(alloc, &sum(alloc)?)?;
+    shown(alloc, &run(alloc, &graph, &[input], marks))
+}
+
+/// What comes of a run of the double.
+fn run_double(alloc: Global, input: i128) -> Result<String, AllocError>
+    requires { is_narrow input ≡ true }
+{
+    let graph = graph_of(alloc, &double(alloc)?)?;
+    shown(alloc, &run(alloc, &graph, &[input], 0))
+}
+
+/// The places of the sum's graph, each with the variables in scope there.
+fn places_of_sum(alloc: Global) -> Result<String, AllocError> {
+    let graph = graph_of(alloc, &sum(alloc)?)?;
+    places(alloc, &graph)
 }
 
 /// The places of a graph, each with the variables in scope there.
@@ -168,25 +181,25 @@ fn places(alloc: Global, graph: &Graph) -> Result<String, AllocError> {
 
 #[test]
 fn places_list_the_variables_in_scope(rt: HostRuntime) -> Result<(), Fail> {
-    let alloc = rt.alloc();
-    let graph = graph_of(alloc, &sum(alloc)?)?;
-    let got = places(alloc, &graph)?;
+    let got = places_of_sum(rt.alloc())?;
     assert_eq!(rt; got.as_str(), "Entry 0; Mark(42) 0 1 2; Exit; ");
     Ok(())
 }
 
 #[test]
-fn runs_pass_marks_or_are_skipped(rt: HostRuntime) -> Result<(), Fail> {
-    let alloc = rt.alloc();
-    let graph = graph_of(alloc, &sum(alloc)?)?;
-    let got = answer(alloc, &graph, 2, 3)?;
+fn a_run_passes_its_marks(rt: HostRuntime) -> Result<(), Fail> {
+    let got = run_sum(rt.alloc(), 2, 3)?;
     assert_eq!(rt; got.as_str(), "42: 2 0 0; 42: 2 1 0; 42: 2 2 1; 1");
-    let got = answer(alloc, &graph, 2, 2)?;
+    let got = run_sum(rt.alloc(), 2, 2)?;
     assert_eq!(rt; got.as_str(), "NotEnded");
-    let graph = graph_of(alloc, &double(alloc)?)?;
-    let got = answer(alloc, &graph, HALF - 1, 0)?;
+    Ok(())
+}
+
+#[test]
+fn a_wide_value_ends_a_run(rt: HostRuntime) -> Result<(), Fail> {
+    let got = run_double(rt.alloc(), HALF - 1)?;
     assert_eq!(rt; got.as_str(), "1267650600228229401496703205374");
-    let got = answer(alloc, &graph, HALF, 0)?;
+    let got = run_double(rt.alloc(), HALF)?;
     assert_eq!(rt; got.as_str(), "Wide");
     Ok(())
 }
