@@ -1,10 +1,1 @@
-pub mod Runs
-pub mod Digits
-pub mod TokenLists
-pub mod Faults
-pub mod Climb
-pub mod Leaves
-pub mod Steps
-pub mod ParameterLists
-pub mod Made
-pub mod Functions
+pub mod Samples

@@ -1,7 +1,11 @@
-pub mod Answers
-pub mod Bytes
-pub mod Words
-pub mod Tokens
+pub mod Faults
 pub mod Expressions
-pub mod Parameters
-pub mod Reads
+pub mod ReadExpressions
+pub mod Declarations
+pub mod Statements
+pub mod Units
+pub mod Depth
+pub mod Signs
+pub mod ReadDeclarations
+pub mod ReadStatements
+pub mod ReadUnits

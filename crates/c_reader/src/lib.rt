@@ -1,21 +1,13 @@
-//! Reads a text as a C function of one `return`.
+//! Reads the tokens of a file as its functions.
 //!
-//! A text goes in, and a `Func` comes out, or the fault that the text has no such form. The text becomes tokens, each
-//! the longest match at its place (`tokens`). Recursive descent takes the function from them (`function`), with one loop
-//! for the operators of a level (`expression`). `specs/Reads.antt` says which function a text is read as, over
-//! `Tokens.antt` (ISO C11, 6.4), `Parameters.antt` (6.7.6.3) and `Expressions.antt` (6.5).
+//! Tokens go in, and the tree that they spell comes out, or the fault that no tree of at most the greatest depth spells
+//! them. Recursive descent, with one loop for the binary operators (`expression`). `specs/Expressions.antt` says which
+//! tokens spell which expression (ISO C11, 6.5).
 #![tactic(auto)]
 
-mod bytes;
 mod expression;
 mod fault;
-mod function;
-mod parameters;
-#[cfg(test)]
-mod tests;
-mod token;
-mod tokens;
-mod words;
+mod operators;
+mod sign;
 
-pub use fault::ReturnFault;
-pub use function::{one_reading, read_return};
+pub use fault::ReadFault;

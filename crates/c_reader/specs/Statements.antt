@@ -1,0 +1,128 @@
+-- Which tokens spell a statement (ISO C11, 6.8), in this profile.
+use Rattle.std.specs.Prelude.{◌≡◌, ◌⊎◌, ℕ, pos, Bool, true, false, List, [], ◌∷◌, ◌++◌, Option, Some, None}
+use Rattle.c_ast.specs.declared.expr.BinOp.{BinOp}
+use Rattle.c_ast.specs.declared.expr.BinOp.TheVariants as binary
+use Rattle.c_ast.specs.RawTree as tree
+use Rattle.c_ast.specs.RawTree.{RawExpression, RawCondition, RawStatements}
+use Rattle.c_ast.specs.RawView.{raw_joined, raw_one, raw_optional}
+use Rattle.c_tokens.specs.declared.kind.Kind.{Kind}
+use Rattle.c_tokens.specs.declared.kind.Kind.TheVariants as k
+use Rattle.c_tokens.specs.declared.token.Token.{Token}
+use Rattle.c_reader.specs.Expressions.{SpellsExpression}
+use Rattle.c_reader.specs.Declarations.{Statement, SpellsOptional, SpellsDeclaration}
+
+-- the operation of `+=`, `-=` or `*=` (6.5.16.2)
+abbrev pub update_of : Kind → Option BinOp
+update_of k.PlusAssign = Some binary.Add
+update_of k.MinusAssign = Some binary.Sub
+update_of k.StarAssign = Some binary.Mul
+update_of _ = None
+
+-- the operation of `++` or `--` (6.5.2.4, 6.5.3.1)
+abbrev pub step_of : Kind → Option BinOp
+step_of k.PlusPlus = Some binary.Add
+step_of k.MinusMinus = Some binary.Sub
+step_of _ = None
+
+-- The operation of a variable, on its line, and an expression, with the line of the operator, is assigned to the variable.
+abbrev pub updated : List ℕ → ℕ → BinOp → ℕ → RawExpression → Statement
+updated name line op operator_line e = tree.Assign name line (tree.Bin op operator_line (tree.Named name line) e)
+
+-- The tokens spell an assignment, without the `;` behind it.
+pub data SpellsSimple : Statement → List Token → Type 0 where
+  assignment : (name : List ℕ) (e : RawExpression) (word sign : Token) (us : List Token) → word.kind ≡ k.Word name
+      → sign.kind ≡ k.Assign → SpellsExpression e us → SpellsSimple (tree.Assign name word.line e) (word ∷ sign ∷ us)
+  -- `x += e` stands for `x = x + e` with e as one operand.
+  update : (name : List ℕ) (op : BinOp) (e : RawExpression) (word sign : Token) (us : List Token)
+      → word.kind ≡ k.Word name → update_of sign.kind ≡ Some op → SpellsExpression e us
+      → SpellsSimple (updated name word.line op sign.line e) (word ∷ sign ∷ us)
+  -- `x++` stands for `x = x + 1`,
+  step_behind : (name : List ℕ) (op : BinOp) (word sign : Token) → word.kind ≡ k.Word name
+      → step_of sign.kind ≡ Some op → SpellsSimple (updated name word.line op sign.line (tree.Num (pos 1))) (word ∷ sign ∷ [])
+  -- and so does `++x`.
+  step_before : (name : List ℕ) (op : BinOp) (word sign : Token) → word.kind ≡ k.Word name
+      → step_of sign.kind ≡ Some op → SpellsSimple (updated name word.line op sign.line (tree.Num (pos 1))) (sign ∷ word ∷ [])
+
+-- The tokens spell a mark: `__mark`, and its number in parentheses.
+pub data SpellsMark : ℕ → List Token → Type 0 where
+  mark : (number : ℕ) (word opening constant closing : Token) → word.kind ≡ k.MarkWord → opening.kind ≡ k.OpenRound
+      → constant.kind ≡ k.Constant number → closing.kind ≡ k.CloseRound
+      → SpellsMark number (word ∷ opening ∷ constant ∷ closing ∷ [])
+
+-- The tokens spell the condition of a loop. Behind a mark and `&` or `&&`, all that follows is the condition.
+pub data SpellsCondition : RawCondition → List Token → Type 0 where
+  unmarked : (e : RawExpression) (us : List Token) → SpellsExpression e us
+      → SpellsCondition (record { mark = None; cond = e }) us
+  marked : (number : ℕ) (e : RawExpression) (sign : Token) (us vs : List Token) → SpellsMark number us
+      → (sign.kind ≡ k.Amp) ⊎ (sign.kind ≡ k.AmpAmp) → SpellsExpression e vs
+      → SpellsCondition (record { mark = Some number; cond = e }) (us ++ sign ∷ vs)
+
+-- The tokens spell the first part of the head of a `for` (6.8.5.3).
+pub data SpellsStart : Statement → List Token → Type 0 where
+  simple : (s : Statement) (us : List Token) → SpellsSimple s us → SpellsStart s us
+  declaration : (s : Statement) (us : List Token) → SpellsDeclaration s us → SpellsStart s us
+
+-- whether a list of one statement ends in an `if` that has no `else`: one behind it would belong to that `if` (6.8.4.1)
+abbrev pub ends_open : RawStatements → Bool
+ends_open (tree.If cond first others) = true
+ends_open (tree.IfElse cond first second others) = ends_open second
+ends_open (tree.While cond body others) = ends_open body
+ends_open (tree.For start cond step body others) = ends_open body
+ends_open _ = false
+
+mutual
+  -- The tokens spell a statement.
+  pub data SpellsStatement : Statement → List Token → Type 0 where
+    block : (entries : List Statement) (opening closing : Token) (us : List Token) → opening.kind ≡ k.OpenCurly
+        → closing.kind ≡ k.CloseCurly → SpellsEntries entries us
+        → SpellsStatement (tree.Block (raw_joined entries)) (opening ∷ (us ++ closing ∷ []))
+    empty : (semicolon : Token) → semicolon.kind ≡ k.Semicolon → SpellsStatement tree.Empty (semicolon ∷ [])
+    simple : (s : Statement) (semicolon : Token) (us : List Token) → semicolon.kind ≡ k.Semicolon → SpellsSimple s us
+        → SpellsStatement s (us ++ semicolon ∷ [])
+    if_alone : (cond : RawExpression) (first : Statement) (word opening closing : Token) (us vs : List Token)
+        → word.kind ≡ k.If → opening.kind ≡ k.OpenRound → closing.kind ≡ k.CloseRound
+        → SpellsExpression cond us → SpellsStatement first vs
+        → SpellsStatement (tree.If cond (raw_one first)) (word ∷ opening ∷ (us ++ closing ∷ vs))
+    -- An `else` belongs to the nearest `if` before it that has none.
+    if_else : (cond : RawExpression) (first second : Statement) (word opening closing other : Token)
+        (us vs ws : List Token)
+        → word.kind ≡ k.If → opening.kind ≡ k.OpenRound → closing.kind ≡ k.CloseRound → other.kind ≡ k.Else
+        → SpellsExpression cond us → SpellsStatement first vs → ends_open (raw_one first) ≡ false
+        → SpellsStatement second ws
+        → SpellsStatement (tree.IfElse cond (raw_one first) (raw_one second))
+          (word ∷ opening ∷ (us ++ closing ∷ (vs ++ other ∷ ws)))
+    while : (cond : RawCondition) (body : Statement) (word opening closing : Token) (us vs : List Token)
+        → word.kind ≡ k.While → opening.kind ≡ k.OpenRound → closing.kind ≡ k.CloseRound
+        → SpellsCondition cond us → SpellsStatement body vs
+        → SpellsStatement (tree.While cond (raw_one body)) (word ∷ opening ∷ (us ++ closing ∷ vs))
+    do_while : (body : Statement) (cond : RawCondition) (first word opening closing semicolon : Token)
+        (us vs : List Token)
+        → first.kind ≡ k.Do → word.kind ≡ k.While → opening.kind ≡ k.OpenRound → closing.kind ≡ k.CloseRound
+        → semicolon.kind ≡ k.Semicolon → SpellsStatement body us → SpellsCondition cond vs
+        → SpellsStatement (tree.Do (raw_one body) cond)
+          (first ∷ (us ++ word ∷ opening ∷ (vs ++ closing ∷ semicolon ∷ [])))
+    for : (start : Option Statement) (cond : Option RawCondition) (step : Option Statement) (body : Statement)
+        (word opening first second closing : Token) (us vs ws xs : List Token)
+        → word.kind ≡ k.For → opening.kind ≡ k.OpenRound → first.kind ≡ k.Semicolon → second.kind ≡ k.Semicolon
+        → closing.kind ≡ k.CloseRound → SpellsOptional SpellsStart start us → SpellsOptional SpellsCondition cond vs
+        → SpellsOptional SpellsSimple step ws → SpellsStatement body xs
+        → SpellsStatement (tree.For (raw_optional start) cond (raw_optional step) (raw_one body))
+          (word ∷ opening ∷ (us ++ first ∷ (vs ++ second ∷ (ws ++ closing ∷ xs))))
+    break : (word semicolon : Token) → word.kind ≡ k.Break → semicolon.kind ≡ k.Semicolon
+        → SpellsStatement (tree.Break word.line) (word ∷ semicolon ∷ [])
+    continue : (word semicolon : Token) → word.kind ≡ k.Continue → semicolon.kind ≡ k.Semicolon
+        → SpellsStatement (tree.Continue word.line) (word ∷ semicolon ∷ [])
+    return : (e : RawExpression) (word semicolon : Token) (us : List Token) → word.kind ≡ k.Return
+        → semicolon.kind ≡ k.Semicolon → SpellsExpression e us
+        → SpellsStatement (tree.Return e) (word ∷ (us ++ semicolon ∷ []))
+    mark : (number : ℕ) (semicolon : Token) (us : List Token) → semicolon.kind ≡ k.Semicolon → SpellsMark number us
+        → SpellsStatement (tree.Mark number) (us ++ semicolon ∷ [])
+
+  -- The tokens spell the entries of a block, one after the other (6.8.2).
+  pub data SpellsEntries : List Statement → List Token → Type 0 where
+    none : SpellsEntries [] []
+    declaration : (s : Statement) (others : List Statement) (semicolon : Token) (us vs : List Token)
+        → semicolon.kind ≡ k.Semicolon → SpellsDeclaration s us → SpellsEntries others vs
+        → SpellsEntries (s ∷ others) (us ++ semicolon ∷ vs)
+    statement : (s : Statement) (others : List Statement) (us vs : List Token) → SpellsStatement s us
+        → SpellsEntries others vs → SpellsEntries (s ∷ others) (us ++ vs)
