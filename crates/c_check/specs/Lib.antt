@@ -1,0 +1,5 @@
+pub mod Contents
+pub mod Resolves
+pub mod Occurrences
+pub mod Faults
+pub mod Checked
