@@ -5,6 +5,7 @@ pub mod Declarations
 pub mod Statements
 pub mod Units
 pub mod Depth
+pub mod Answer
 pub mod Signs
 pub mod ReadDeclarations
 pub mod ReadStatements

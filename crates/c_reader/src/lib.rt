@@ -5,9 +5,11 @@
 //! tokens spell which expression (ISO C11, 6.5).
 #![tactic(auto)]
 
-mod expression;
+
 mod fault;
 mod operators;
 mod sign;
+mod unit;
 
 pub use fault::ReadFault;
+pub use unit::read_unit;

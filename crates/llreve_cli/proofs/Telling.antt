@@ -7,7 +7,7 @@ use Rattle.llreve_cli.specs.declared.fault.Fault.TheVariants as fault
 use Rattle.llreve_cli.specs.declared.outcome.Outcome.{Outcome}
 use Rattle.llreve_cli.specs.declared.outcome.Outcome.TheVariants as outcome
 use Rattle.llreve_cli.specs.Texts.{fault_status}
-use Rattle.llreve_cli.specs.Leads.{AreEquivalent, Leads, no_command, first_unread, first_long, second_unread, second_long, first_unparsed, second_unparsed, other_arity, other_forms, equal_forms}
+use Rattle.llreve_cli.specs.Leads.{AreEquivalent, Leads, no_command, first_unread, first_long, second_unread, second_long, first_faulty, first_unparsed, first_unchecked, second_faulty, second_unparsed, second_unchecked, other_arity, other_forms, equal_forms}
 use Rattle.llreve_cli.specs.Tells.{Tells}
 
 -- A fault has a status of its own.
@@ -15,8 +15,10 @@ refused-status : (f : Fault) → 0 ≡ fault_status f → ⊥
 refused-status fault.Usage e = omega arith
 refused-status (fault.Read name) e = omega arith
 refused-status (fault.TooLong name) e = omega arith
-refused-status (fault.Grammar name) e = omega arith
-refused-status (fault.Arity m n) e = omega arith
+refused-status (fault.Token name inner) e = omega arith
+refused-status (fault.Reader name inner) e = omega arith
+refused-status (fault.Check name inner) e = omega arith
+refused-status (fault.Different arity) e = omega arith
 
 leads-Equivalent : (words : List (List ℕ)) (text : List ℕ → Option (List ℕ)) (before after : List ℕ → ℕ) (o : Outcome) → Leads words text before after o → o ≡ outcome.Equivalent → AreEquivalent words text
 leads-Equivalent words text before after o (no_command _) e = absurd cc
@@ -24,8 +26,12 @@ leads-Equivalent words text before after o (first_unread _ _ _ _) e = absurd cc
 leads-Equivalent words text before after o (first_long _ _ _ _) e = absurd cc
 leads-Equivalent words text before after o (second_unread _ _ _ _ _ _) e = absurd cc
 leads-Equivalent words text before after o (second_long _ _ _ _ _ _) e = absurd cc
-leads-Equivalent words text before after o (first_unparsed _ _) e = absurd cc
-leads-Equivalent words text before after o (second_unparsed _ _ _ _) e = absurd cc
+leads-Equivalent words text before after o (first_faulty _ _ _) e = absurd cc
+leads-Equivalent words text before after o (first_unparsed _ _ _) e = absurd cc
+leads-Equivalent words text before after o (first_unchecked _ _ _) e = absurd cc
+leads-Equivalent words text before after o (second_faulty _ _ _ _ _) e = absurd cc
+leads-Equivalent words text before after o (second_unparsed _ _ _ _ _) e = absurd cc
+leads-Equivalent words text before after o (second_unchecked _ _ _ _ _) e = absurd cc
 leads-Equivalent words text before after o (other_arity _ _) e = absurd cc
 leads-Equivalent words text before after o (other_forms _ _ _) e = absurd cc
 leads-Equivalent words text before after o (equal_forms are) e = are

@@ -1,0 +1,54 @@
+-- Which function a text is read as, and why it is read as none.
+use Rattle.std.specs.Prelude.{◌≡◌, ◌≢◌, ℕ, List}
+use Rattle.c_ast.specs.Function.{Function}
+use Rattle.c_ast.specs.RawTree.{RawFunction}
+use Rattle.c_tokens.specs.declared.token.Token.{Token}
+use Rattle.c_tokens.specs.declared.fault.TokenFault.{TokenFault}
+use Rattle.c_tokens.specs.Tokens.{AreTokens, IsFirstFault}
+use Rattle.c_reader.specs.declared.fault.ReadFault.{ReadFault}
+use Rattle.c_reader.specs.declared.fault.ReadFault.TheVariants as read
+use Rattle.c_reader.specs.Answer.{ReadsUnit, IsReadFault}
+use Rattle.c_check.specs.declared.fault.CheckFault.{CheckFault}
+use Rattle.c_check.specs.declared.fault.CheckFault.TheVariants as check
+use Rattle.c_check.specs.Checked.{Checks, IsCheckFault}
+use Rattle.llreve_cli.specs.declared.function.TextFault.{TextFault}
+use Rattle.llreve_cli.specs.declared.function.TextFault.TheVariants as refusal
+
+-- The tokens of the text spell these functions.
+pub record Parses (text : List ℕ) (unit : List RawFunction) : Type 0 where
+  pub tokens : List Token
+  pub are : AreTokens text tokens
+  pub reads : ReadsUnit tokens unit
+
+-- The text is read as the function: its tokens spell one function, which resolves to this one.
+pub record Reads (text : List ℕ) (made : Function) : Type 0 where
+  pub unit : List RawFunction
+  pub parses : Parses text unit
+  pub checks : Checks unit made
+
+-- The tokens of the text are refused for this reason.
+pub record IsUnread (text : List ℕ) (fault : ReadFault) : Type 0 where
+  pub tokens : List Token
+  pub are : AreTokens text tokens
+  pub reason : IsReadFault tokens fault
+  pub no_want : fault ≢ read.Memory
+
+-- The functions of the text are refused for this reason.
+pub record IsUnchecked (text : List ℕ) (fault : CheckFault) : Type 0 where
+  pub unit : List RawFunction
+  pub parses : Parses text unit
+  pub reason : IsCheckFault unit fault
+  pub no_want : fault ≢ check.Memory
+
+-- This is why the text is read as no function: its first faulty place, or else what is wrong with its tokens, or else
+-- the first rule that is broken.
+abbrev pub IsRefusal : List ℕ → TextFault → Type 0
+IsRefusal text (refusal.Token fault) = IsFirstFault text fault
+IsRefusal text (refusal.Reader fault) = IsUnread text fault
+IsRefusal text (refusal.Check fault) = IsUnchecked text fault
+IsRefusal text refusal.Memory = ⊥
+
+-- The fault is a refusal, or memory ran out.
+abbrev pub IsTextFault : List ℕ → TextFault → Type 0
+IsTextFault text refusal.Memory = Unit {0}
+IsTextFault text fault = IsRefusal text fault
