@@ -1,4 +1,5 @@
 pub mod Levels
+pub mod Fronts
 pub mod Choosing
 pub mod Returning
 pub mod Samples
@@ -8,7 +9,6 @@ pub mod NextPlace
 pub mod MarksAhead
 pub mod Lengths
 pub mod Places
-pub mod Fronts
 pub mod Steps
 pub mod InScope
 pub mod Environments
@@ -16,3 +16,4 @@ pub mod Interpreting
 pub mod RunSamples
 pub mod WorkedRuns
 pub mod Outcomes
+pub mod Distinct

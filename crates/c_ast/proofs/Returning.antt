@@ -14,7 +14,7 @@ use Rattle.c_ast.specs.Formed.{IsOver, AreFormed}
 use Rattle.c_ast.specs.Narrow.{all_narrow, only_if, narrow_value}
 use Rattle.c_ast.specs.Returns.{Returns, result_within}
 use Rattle.c_ast.specs.Function.{Function, IsFunction, ReturnsOne, program_of}
-use Rattle.c_ast.proofs.Levels.{put_in_front-Return}
+use Rattle.c_ast.proofs.Fronts.{front-Return}
 
 -- ---- the parameters' values begin the environment, and zeros follow
 
@@ -76,7 +76,7 @@ result_within-Return scope e zero env value ends = absurd cc
 result_within-Return scope e (suc steps) env value ends = cc
 
 statements_of-Return : (e : Expr) → statements_of (stmt.Return e ∷ []) ≡ Return (expression_of e) Nil
-statements_of-Return e = put_in_front-Return e Nil
+statements_of-Return e = front-Return e Nil
 
 returned_over : (f : Function) (e : Expr) → IsFunction f → ReturnsOne f e → IsOver (first_variables f.params) (expression_of e)
 returned_over f e is one =
