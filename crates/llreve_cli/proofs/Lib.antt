@@ -1,2 +1,4 @@
+pub mod Reading
+pub mod Marks
 pub mod Judging
 pub mod Telling
