@@ -212,7 +212,7 @@ stands_ahead (Block a others) scope work mark after (inl stands) own later has =
 stands_ahead (Block a others) scope work mark after (inr stands) own later has =
     elim (stands_ahead others scope work mark after stands own later has) [ inl behind ↦ inl (inr behind) | inr below ↦ inr below ]
 
-ahead_after : (f : Program) (mark : ℕ) (after : Work) → Follows f mark after → IsAhead f after
+pub ahead_after : (f : Program) (mark : ℕ) (after : Work) → Follows f mark after → IsAhead f after
 ahead_after f mark after follows = record {
   by = λ own later has. elim (stands_ahead f.body (first_variables f.params) [] mark after follows own later has) [ inl in_body ↦ in_body | inr nowhere ↦ absurd nowhere ];
 }

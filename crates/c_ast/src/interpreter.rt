@@ -287,8 +287,11 @@ fn input_at(inputs: &[i128], x: usize) -> i128
 }
 
 /// The values of all variables as a run begins: the inputs, and 0 for all that are no parameters.
-fn first_environment(alloc: Global, vars: usize, inputs: &[i128]) -> Result<Vec<i128>, AllocError>
-    requires { length inputs.now ≤ vars }
+pub fn first_environment(
+    alloc: Global,
+    vars: usize,
+    inputs: &[i128],
+) -> Result<Vec<i128>, AllocError>
     ensures { IfOk result (λ values. values.items ≡ spread (first_variables (length inputs.now)) vars inputs.now) }
 {
     let mut values = Vec::new(alloc);

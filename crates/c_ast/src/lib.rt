@@ -26,7 +26,7 @@ mod value;
 pub use copy::{copy_expr, copy_stmts};
 pub use expr::{BinOp, Expr, UnOp};
 pub use func::{Func, Var};
-pub use interpreter::{Outcome, interpret};
+pub use interpreter::{Outcome, first_environment, interpret};
 pub use laws::{law_of_results, law_of_segments, law_of_traces};
 pub use name::Name;
 pub use place::{Place, Side};

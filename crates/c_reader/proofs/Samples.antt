@@ -1,5 +1,5 @@
 -- The definitions on small texts.
-use Rattle.std.proofs.Common.{◌≡◌, ℕ, [], ◌∷◌, Some, None, List, refl, pos}
+use Rattle.std.proofs.Common.{◌≡◌, [], ◌∷◌, Some, None, List, refl, pos}
 use Rattle.std.specs.Prelude.{codes, map}
 use Rattle.c_ast.specs.RawTree.{RawExpression, Num, Named, Un, Bin, Cond}
 use Rattle.c_ast.specs.declared.expr.UnOp.TheVariants as unary

@@ -39,8 +39,8 @@ statements_depth (tree.Do body cond others) =
     max (max (statements_depth body) (expression_depth cond.cond) + 1) (statements_depth others)
 statements_depth (tree.For start cond step body others) =
     max
-      (max (max (statements_depth start) (condition_depth cond)) (max (statements_depth step) (statements_depth body)) + 1)
-      (statements_depth others)
+    (max (max (statements_depth start) (condition_depth cond)) (max (statements_depth step) (statements_depth body)) + 1)
+    (statements_depth others)
 statements_depth (tree.Break line others) = max 1 (statements_depth others)
 statements_depth (tree.Continue line others) = max 1 (statements_depth others)
 statements_depth (tree.Return e others) = max (expression_depth e + 1) (statements_depth others)

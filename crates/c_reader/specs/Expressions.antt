@@ -40,22 +40,23 @@ pub data SpellsAt : ℕ → RawExpression → List Token → Type 0 where
   constant : (value : ℕ) (token : Token) → token.kind ≡ k.Constant value → value < 2 ^ 63
       → SpellsAt 8 (Num (pos value)) (token ∷ [])
   -- Brackets leave nothing in the tree.
-  bracketed : (opening closing : Token) (e : RawExpression) (us : List Token) → opening.kind ≡ k.OpenRound
-      → closing.kind ≡ k.CloseRound → SpellsAt 0 e us → SpellsAt 8 e (opening ∷ us ++ closing ∷ [])
+  bracketed : (opening closing : Token) (e : RawExpression) (inside : List Token) → opening.kind ≡ k.OpenRound
+      → closing.kind ≡ k.CloseRound → SpellsAt 0 e inside → SpellsAt 8 e (opening ∷ (inside ++ closing ∷ []))
   -- a sign before its operand (6.5.3.3)
-  signed : (op : UnOp) (sign : Token) (e : RawExpression) (us : List Token) → unary_of sign.kind ≡ Some op
-      → SpellsAt 7 e us → SpellsAt 7 (Un op e) (sign ∷ us)
+  signed : (op : UnOp) (sign : Token) (e : RawExpression) (operand : List Token) → unary_of sign.kind ≡ Some op
+      → SpellsAt 7 e operand → SpellsAt 7 (Un op e) (sign ∷ operand)
   -- The left operand is of the operator's level and the right one of the next, so equal levels group to the left. The
   -- line is the operator's.
-  joined : (level : ℕ) (op : BinOp) (sign : Token) (e f : RawExpression) (us vs : List Token)
-      → operator_of sign.kind ≡ Some (level, op) → SpellsAt level e us → SpellsAt (suc level) f vs
-      → SpellsAt level (Bin op sign.line e f) (us ++ sign ∷ vs)
+  joined : (level : ℕ) (op : BinOp) (sign : Token) (e f : RawExpression) (left right : List Token)
+      → operator_of sign.kind ≡ Some (level, op) → SpellsAt level e left → SpellsAt (suc level) f right
+      → SpellsAt level (Bin op sign.line e f) (left ++ sign ∷ right)
   -- a choice (6.5.15), whose two values are whole expressions
-  chosen : (question colon : Token) (cond e f : RawExpression) (us vs ws : List Token) → question.kind ≡ k.Question
-      → colon.kind ≡ k.Colon → SpellsAt 1 cond us → SpellsAt 0 e vs → SpellsAt 0 f ws
-      → SpellsAt 0 (Cond cond e f) (us ++ question ∷ vs ++ colon ∷ ws)
+  chosen : (question colon : Token) (cond e f : RawExpression) (before between behind : List Token)
+      → question.kind ≡ k.Question → colon.kind ≡ k.Colon → SpellsAt 1 cond before → SpellsAt 0 e between
+      → SpellsAt 0 f behind → SpellsAt 0 (Cond cond e f) (before ++ question ∷ (between ++ colon ∷ behind))
   -- An expression of the next level may stand alone.
-  alone : (level : ℕ) (e : RawExpression) (us : List Token) → level < 8 → SpellsAt (suc level) e us → SpellsAt level e us
+  alone : (level : ℕ) (e : RawExpression) (tokens : List Token) → level < 8 → SpellsAt (suc level) e tokens
+      → SpellsAt level e tokens
 
 -- The tokens spell the expression.
 abbrev pub SpellsExpression : RawExpression → List Token → Type 0

@@ -1,11 +1,11 @@
 pub mod Faults
+pub mod Gives
 pub mod Expressions
 pub mod ReadExpressions
 pub mod Declarations
 pub mod Statements
 pub mod Units
 pub mod Depth
-pub mod Answer
 pub mod Signs
 pub mod ReadDeclarations
 pub mod ReadStatements

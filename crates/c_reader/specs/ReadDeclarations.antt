@@ -81,11 +81,12 @@ declaration_at (suc room) tokens =
 unfoldable pub parameter_at : List Token → Reads Var
 parameter_at tokens = behind_type tokens >>= name_at
 
+-- the parameters by the tokens behind a `)`, if it stands first or behind `void`
+abbrev pub parameters_by : Option (List Token) → List Token → Reads (List Var)
+parameters_by (Some others) tokens = Some ([], others)
+parameters_by None tokens =
+    listed_at parameter_at tokens >>= λ x. behind_sign sign.CloseRound x.1 >>= λ others. Some (x.0, others)
+
 -- the parameters, and the tokens behind the `)` that ends them
 unfoldable pub parameters_at : List Token → Reads (List Var)
 parameters_at tokens = parameters_by (behind_sign sign.CloseRound (skipped sign.Void tokens)) tokens
-  where
-    parameters_by : Option (List Token) → List Token → Reads (List Var)
-    parameters_by (Some others) tokens = Some ([], others)
-    parameters_by None tokens =
-        listed_at parameter_at tokens >>= λ x. behind_sign sign.CloseRound x.1 >>= λ others. Some (x.0, others)

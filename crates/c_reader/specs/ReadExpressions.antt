@@ -16,6 +16,18 @@ step >>= go_on = option_and_then go_on step
 abbrev pub Reading : Type 0
 Reading = Option (RawExpression × List Token)
 
+-- how tokens are read
+abbrev pub Reader : Type 0
+Reader = List Token → Reading
+
+-- how reading goes on from an expression
+abbrev pub Further : Type 0
+Further = RawExpression → Reader
+
+-- an operator: its level, its operation, its line, and the tokens behind it
+abbrev pub NextOperator : Type 0
+NextOperator = ℕ × BinOp × ℕ × List Token
+
 -- the tokens behind a first one of this kind
 abbrev pub behind : (Kind → Bool) → List Token → Option (List Token)
 behind is_it [] = None
@@ -33,9 +45,8 @@ abbrev pub is_colon : Kind → Bool
 is_colon k.Colon = true
 is_colon _ = false
 
--- The first token's level, operation and line, and the tokens behind it, where it is a binary operator of the level or a
--- tighter one.
-abbrev pub next_operator : ℕ → List Token → Option (ℕ × BinOp × ℕ × List Token)
+-- the first token, where it is a binary operator of the level or a tighter one
+abbrev pub next_operator : ℕ → List Token → Option NextOperator
 next_operator level [] = None
 next_operator level (token ∷ others) =
     operator_of token.kind >>= λ x. if nat_le level x.0 then Some (x.0, x.1, token.line, others) else None
@@ -51,29 +62,29 @@ operand_by kind line others inside operand = unary_of kind >>= λ op. operand >>
 
 -- An operand and the operator behind it, if there is one: then its right operand is read by `right`, and the reading goes
 -- on from their operation by `further`.
-abbrev pub joined_by : RawExpression → List Token → Option (ℕ × BinOp × ℕ × List Token) → (ℕ → List Token → Reading) → (RawExpression → List Token → Reading) → Reading
+abbrev pub joined_by : RawExpression → List Token → Option NextOperator → (ℕ → Reader) → Further → Reading
 joined_by left tokens None right further = Some (left, tokens)
 joined_by left tokens (Some (level, op, line, others)) right further =
     right (suc level) others >>= λ x. further (Bin op line left x.0) x.1
 
 -- A condition and the tokens behind a `?`, if there is one: then both values are read by `value`.
-abbrev pub chosen_by : RawExpression → List Token → Option (List Token) → (List Token → Reading) → Reading
+abbrev pub chosen_by : RawExpression → List Token → Option (List Token) → Reader → Reading
 chosen_by cond tokens None value = Some (cond, tokens)
 chosen_by cond tokens (Some others) value =
     value others >>= λ x. behind is_colon x.1 >>= λ after. value after >>= λ y. Some (Cond cond x.0 y.0, y.1)
 
--- An operand, and what goes on from it at a level.
-abbrev pub level_by : (List Token → Reading) → (RawExpression → List Token → Reading) → List Token → Reading
+-- an operand, and what goes on from it
+abbrev pub level_by : Reader → Further → Reader
 level_by operand further tokens = operand tokens >>= λ x. further x.0 x.1
 
 -- an or-expression, and what goes on from it
-abbrev pub whole_by : (List Token → Reading) → (RawExpression → List Token → Reading) → (RawExpression → List Token → Reading) → List Token → Reading
+abbrev pub whole_by : Reader → Further → Further → Reader
 whole_by operand further choice tokens = level_by operand further tokens >>= λ x. choice x.0 x.1
 
--- The functions below end with their first argument, which is greater than the number of the tokens wherever it is told.
+-- These functions end with their first argument, and do not depend on it where it is greater than the number of tokens.
 unfoldable mutual
   -- the operand at the front
-  pub operand_within : ℕ → List Token → Reading
+  pub operand_within : ℕ → Reader
   operand_within zero tokens = None
   operand_within (suc n) [] = None
   operand_within (suc n) (token ∷ others) =
@@ -81,37 +92,37 @@ unfoldable mutual
       (whole_by (operand_within n) (further_within n 1) (choice_within n) others) (operand_within n others)
 
   -- The operators of the level and of tighter ones that follow an operand take it as their left one.
-  pub further_within : ℕ → ℕ → RawExpression → List Token → Reading
+  pub further_within : ℕ → ℕ → Further
   further_within zero level left tokens = None
   further_within (suc n) level left tokens =
       joined_by left tokens (next_operator level tokens) (λ above. level_by (operand_within n) (further_within n above))
       (further_within n level)
 
   -- A `?` that follows an or-expression takes it as its condition.
-  pub choice_within : ℕ → RawExpression → List Token → Reading
+  pub choice_within : ℕ → Further
   choice_within zero cond tokens = None
   choice_within (suc n) cond tokens =
       chosen_by cond tokens (behind is_question tokens)
       (whole_by (operand_within n) (further_within n 1) (choice_within n))
 
 -- the operand at the front, and the tokens behind it
-unfoldable pub operand_at : List Token → Reading
+unfoldable pub operand_at : Reader
 operand_at tokens = operand_within (length tokens) tokens
 
 -- the longest expression of a level from this left operand on, and the tokens behind it
-unfoldable pub further_at : ℕ → RawExpression → List Token → Reading
+unfoldable pub further_at : ℕ → Further
 further_at level left tokens = further_within (suc (length tokens)) level left tokens
 
 -- the longest expression of a level at the front, and the tokens behind it
-unfoldable pub level_at : ℕ → List Token → Reading
+unfoldable pub level_at : ℕ → Reader
 level_at level tokens = level_by operand_at (further_at level) tokens
 
 -- the longest expression from this condition on, and the tokens behind it
-unfoldable pub choice_at : RawExpression → List Token → Reading
+unfoldable pub choice_at : Further
 choice_at cond tokens = choice_within (suc (length tokens)) cond tokens
 
 -- the longest expression at the front, and the tokens behind it
-unfoldable pub expression_at : List Token → Reading
+unfoldable pub expression_at : Reader
 expression_at tokens = whole_by operand_at (further_at 1) choice_at tokens
 
 -- Each expression that is read is deeper than this.

@@ -136,20 +136,33 @@ entries_within item (suc n) tokens =
 unfoldable pub entries_at : ℕ → (List Token → Reads Statement) → List Token → Reads (List Statement)
 entries_at room inside tokens = entries_within (entry_at room inside) (suc (length tokens)) tokens
 
+-- the block behind its `{`
+unfoldable pub block_at : ℕ → (List Token → Reads Statement) → List Token → Reads Statement
+block_at room inside tokens = entries_at room inside tokens >>= λ x. Some (tree.Block (raw_joined x.0), x.1)
+
+-- a statement in which no other stands, by its first token, and that token's kind
+abbrev pub short_by : ℕ → Kind → Token → List Token → Reads Statement
+short_by room k.Semicolon first others = Some (tree.Empty, others)
+short_by room k.Break first others = ended (tree.Break first.line) others
+short_by room k.Continue first others = ended (tree.Continue first.line) others
+short_by room k.Return first others = shallow_at room others >>= λ x. ended (tree.Return x.0) x.1
+short_by room k.MarkWord first others = mark_at others >>= λ x. ended (tree.Mark x.0) x.1
+short_by room _ first others = simple_at (suc room) (first ∷ others) >>= λ x. ended x.0 x.1
+
+-- a statement in which no other stands
+abbrev pub short_at : ℕ → List Token → Reads Statement
+short_at zero tokens = None
+short_at (suc room) [] = None
+short_at (suc room) (first ∷ others) = short_by room first.kind first others
+
 -- a statement by its first token, and that token's kind
 abbrev pub statement_by : ℕ → (List Token → Reads Statement) → Kind → Token → List Token → Reads Statement
-statement_by room inside k.OpenCurly first others =
-    entries_at room inside others >>= λ x. Some (tree.Block (raw_joined x.0), x.1)
-statement_by room inside k.Semicolon first others = Some (tree.Empty, others)
+statement_by room inside k.OpenCurly first others = block_at room inside others
 statement_by room inside k.If first others = if_at room inside others
 statement_by room inside k.While first others = while_at room inside others
 statement_by room inside k.Do first others = do_at room inside others
 statement_by room inside k.For first others = for_at room inside others
-statement_by room inside k.Break first others = ended (tree.Break first.line) others
-statement_by room inside k.Continue first others = ended (tree.Continue first.line) others
-statement_by room inside k.Return first others = shallow_at room others >>= λ x. ended (tree.Return x.0) x.1
-statement_by room inside k.MarkWord first others = mark_at others >>= λ x. ended (tree.Mark x.0) x.1
-statement_by room inside _ first others = simple_at (suc room) (first ∷ others) >>= λ x. ended x.0 x.1
+statement_by room inside kind first others = short_by room kind first others
 
 -- the statement at the front, where its depth is at most this
 unfoldable pub statement_at : ℕ → List Token → Reads Statement

@@ -90,7 +90,7 @@ mutual
         → SpellsExpression cond us → SpellsStatement first vs → ends_open (raw_one first) ≡ false
         → SpellsStatement second ws
         → SpellsStatement (tree.IfElse cond (raw_one first) (raw_one second))
-          (word ∷ opening ∷ (us ++ closing ∷ (vs ++ other ∷ ws)))
+        (word ∷ opening ∷ (us ++ closing ∷ (vs ++ other ∷ ws)))
     while : (cond : RawCondition) (body : Statement) (word opening closing : Token) (us vs : List Token)
         → word.kind ≡ k.While → opening.kind ≡ k.OpenRound → closing.kind ≡ k.CloseRound
         → SpellsCondition cond us → SpellsStatement body vs
@@ -100,14 +100,14 @@ mutual
         → first.kind ≡ k.Do → word.kind ≡ k.While → opening.kind ≡ k.OpenRound → closing.kind ≡ k.CloseRound
         → semicolon.kind ≡ k.Semicolon → SpellsStatement body us → SpellsCondition cond vs
         → SpellsStatement (tree.Do (raw_one body) cond)
-          (first ∷ (us ++ word ∷ opening ∷ (vs ++ closing ∷ semicolon ∷ [])))
+        (first ∷ (us ++ word ∷ opening ∷ (vs ++ closing ∷ semicolon ∷ [])))
     for : (start : Option Statement) (cond : Option RawCondition) (step : Option Statement) (body : Statement)
         (word opening first second closing : Token) (us vs ws xs : List Token)
         → word.kind ≡ k.For → opening.kind ≡ k.OpenRound → first.kind ≡ k.Semicolon → second.kind ≡ k.Semicolon
         → closing.kind ≡ k.CloseRound → SpellsOptional SpellsStart start us → SpellsOptional SpellsCondition cond vs
         → SpellsOptional SpellsSimple step ws → SpellsStatement body xs
         → SpellsStatement (tree.For (raw_optional start) cond (raw_optional step) (raw_one body))
-          (word ∷ opening ∷ (us ++ first ∷ (vs ++ second ∷ (ws ++ closing ∷ xs))))
+        (word ∷ opening ∷ (us ++ first ∷ (vs ++ second ∷ (ws ++ closing ∷ xs))))
     break : (word semicolon : Token) → word.kind ≡ k.Break → semicolon.kind ≡ k.Semicolon
         → SpellsStatement (tree.Break word.line) (word ∷ semicolon ∷ [])
     continue : (word semicolon : Token) → word.kind ≡ k.Continue → semicolon.kind ≡ k.Semicolon

@@ -20,7 +20,7 @@ pub data SpellsFunction : RawFunction → List Token → Type 0 where
       → opening_curly.kind ≡ k.OpenCurly → closing_curly.kind ≡ k.CloseCurly → AreQualifiers qualifiers
       → SpellsType us → SpellsName var vs → SpellsParameters params ws → SpellsEntries entries xs
       → SpellsFunction (record { name = var.name; line = var.line; params = params; body = raw_joined entries })
-        (qualifiers ++ (us ++ (vs ++ opening ∷ (ws ++ closing ∷ opening_curly ∷ (xs ++ closing_curly ∷ [])))))
+      (qualifiers ++ (us ++ (vs ++ opening ∷ (ws ++ closing ∷ opening_curly ∷ (xs ++ closing_curly ∷ [])))))
 
 -- The tokens spell a declaration of `__mark`, whose parameter may have a name (6.7.6.3).
 pub data SpellsMarkDeclaration : List Token → Type 0 where

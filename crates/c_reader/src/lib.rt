@@ -1,15 +1,23 @@
 //! Reads the tokens of a file as its functions.
 //!
-//! Tokens go in, and the tree that they spell comes out, or the fault that no tree of at most the greatest depth spells
-//! them. Recursive descent, with one loop for the binary operators (`expression`). `specs/Expressions.antt` says which
-//! tokens spell which expression (ISO C11, 6.5).
+//! Tokens go in, and the tree that they spell comes out, or the fault that brackets nest too deep, or that no tree of at
+//! most 400 levels is spelled so. `specs/Units.antt` says which tokens spell which functions, over `Statements.antt`,
+//! `Declarations.antt` and `Expressions.antt` (ISO C11, 6.5 to 6.9), and `Depth.antt` measures both depths. Recursive
+//! descent: each rule of the grammar is a function (`unit`, `statement`, `simple`, `declaration`), and the binary
+//! operators have one loop (`expression`).
 #![tactic(auto)]
 
-
+mod declaration;
+mod depth;
+mod expression;
 mod fault;
 mod operators;
 mod sign;
+mod simple;
+mod statement;
+#[cfg(test)]
+mod tests;
 mod unit;
 
 pub use fault::ReadFault;
-pub use unit::read_unit;
+pub use unit::{one_tree, read_unit};

@@ -1,7 +1,9 @@
 //! Tokens with one spelling.
 ghost use Rattle.std.specs.Prelude.{◌≡◌, ◌<◌, length, option_map, IfSome};
-ghost use Rattle.c_reader.specs.Signs.{is_sign, behind_sign, begins};
+ghost use Rattle.c_reader.specs.Gives.{Gives};
+ghost use Rattle.c_reader.specs.Signs.{is_sign, behind_sign, begins, skipped};
 
+use crate::ReadFault;
 use c_tokens::{Kind, Token};
 
 /// A token with one spelling, or a class of such tokens.
@@ -26,7 +28,8 @@ pub enum Sign {
     Qualifier,
 }
 
-fn is_sign(sign: Sign, kind: &Kind) -> bool
+/// Whether the kind is the one that the sign names.
+pub fn is_sign(sign: Sign, kind: &Kind) -> bool
     ensures { result ≡ is_sign sign kind.now }
 {
     match sign {
@@ -64,4 +67,18 @@ pub fn begins(sign: Sign, tokens: &[Token]) -> bool
         Some((first, _)) => is_sign(sign, &first.kind),
         None => false,
     }
+}
+
+/// The tokens behind the sign, which stands first, or `Grammar`.
+pub fn expect(sign: Sign, tokens: &[Token]) -> Result<&[Token], ReadFault>
+    ensures { Gives (λ x. x.now) result (behind_sign sign tokens.now) }
+{
+    behind_sign(sign, tokens).ok_or(ReadFault::Grammar)
+}
+
+/// The tokens without a first one that is the sign.
+pub fn skipped(sign: Sign, tokens: &[Token]) -> &[Token]
+    ensures { result.now ≡ skipped sign tokens.now }
+{
+    behind_sign(sign, tokens).unwrap_or(tokens)
 }

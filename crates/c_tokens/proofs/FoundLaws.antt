@@ -1,11 +1,11 @@
 -- What stands at a place is what the program answers for it, and nothing else.
 use Rattle.std.proofs.Common.{◌≡◌, ◌≢◌, ℕ, suc, ◌+◌, ◌<◌, ◌≤◌, ◌^◌, Bool, true, false, cond, ◌&&◌, ◌||◌, List, [], ◌∷◌, ◌++◌, Option, Some, None, length, take, drop, get_or, eqb, bytes_eq, refl, sym, ◌∙◌, ap, subst, arith}
-use Rattle.std.specs.Prelude.{find, nat_eq, nat_le, nat_lt}
+use Rattle.std.specs.Prelude.{find, not, nat_eq, nat_le, nat_lt}
 use Rattle.std.specs.List.{list_all, prefix_len, starts_with}
 use Rattle.std.proofs.lemmas.Bool.{false≢true}
 use Rattle.std.proofs.lemmas.Bool.Decides.{nat_tests, Decides-eqb}
 use Rattle.std.proofs.lemmas.Slice.Eq.{starts_is}
-use Rattle.std.proofs.lemmas.List.{take-append-drop, length-append}
+use Rattle.std.proofs.lemmas.List.{take-append-drop, take-append-le, length-append}
 use Rattle.std.proofs.lemmas.List.Folds.{length-prefix_len}
 use Rattle.std.proofs.Math.Seq.{take-append_seam, drop-append_seam}
 use Rattle.c_tokens.specs.declared.found.Found.{Found}
@@ -19,7 +19,7 @@ use Rattle.c_tokens.specs.Scanned.{IsWithin, word_found, value_found, constant_f
 use Rattle.c_tokens.proofs.Both.{and_first, and_second}
 use Rattle.c_tokens.proofs.ConstantLaws.{prefix-passes, prefix_len-run, constant_of-whole, constant_of-sound}
 use Rattle.c_tokens.proofs.Rows.{found-passes, found-all, bytes_eq-same, bytes_eq-refl}
-use Rattle.c_tokens.proofs.LexemeLaws.{digit-letter, digit-word, letter-word, constant-first, constant-words, operator-sign, Spells-one, spelled-some, spelled-words}
+use Rattle.c_tokens.proofs.LexemeLaws.{not-false, digit-letter, digit-word, letter-word, constant-first, constant-words, operator-sign, Spells-one, spelled-some, spelled-words}
 
 -- a run that passes is no longer than the longest one
 prefix_len-most : {X : Type 0} (p : X → Bool) (xs ys : List X) → list_all p xs ≡ true → length xs ≤ prefix_len p (xs ++ ys)
@@ -144,10 +144,14 @@ starts-parts text bytes e = (starts_is Decides-eqb text bytes (starts_with nat_e
 starts-at : (text bytes behind : List ℕ) → text ≡ bytes ++ behind → starts_with nat_eq text bytes ≡ true
 starts-at text bytes behind parts = (starts_is Decides-eqb text bytes (starts_with nat_eq text bytes) refl).1 behind parts
 
--- whether no row of a table is longer than one before it
+-- whether the other row is no longer, or does not begin with this one
+abbrev is_no_longer : Row → Row → Bool
+is_no_longer row other = nat_le (length other.0) (length row.0) || not (starts_with nat_eq other.0 row.0)
+
+-- whether no row of a table stands before a longer one that begins with it
 abbrev is_longest_first : List Row → Bool
 is_longest_first [] = true
-is_longest_first (row ∷ rows) = list_all (λ other. nat_le (length other.0) (length row.0)) rows && is_longest_first rows
+is_longest_first (row ∷ rows) = list_all (is_no_longer row) rows && is_longest_first rows
 
 operators-longest_first : is_longest_first operators ≡ true
 unfolding operators
@@ -156,8 +160,30 @@ operators-longest_first = refl
 not_more : (m n : ℕ) → nat_le m n ≡ true → m ≤ n
 not_more m n e = grind (arith, nat_tests)
 
-le_itself : (n : ℕ) → nat_le n n ≡ true
-le_itself n = grind (arith, nat_tests)
+more : (m n : ℕ) → nat_le m n ≡ false → n ≤ m
+more m n e = grind (arith, nat_tests)
+
+no_longer-itself : (row : Row) → is_no_longer row row ≡ true
+no_longer-itself row =
+    let same : nat_le (length row.0) (length row.0) ≡ true = grind (arith, nat_tests) in rw same refl
+
+-- of two fronts of a text the longer one begins with the other
+front-front : (text xs ys : List ℕ) → starts_with nat_eq text xs ≡ true → starts_with nat_eq text ys ≡ true → length xs ≤ length ys
+    → starts_with nat_eq ys xs ≡ true
+front-front text xs ys e f few =
+    let same : take (length xs) text ≡ take (length xs) ys = rw (starts-parts text ys f) (take-append-le (length xs) ys (drop (length ys) text) few) in
+    rw (← same) e
+
+-- of two rows that stand at the front of a text
+no_longer-front : (text : List ℕ) (row other : Row) → is_no_longer row other ≡ true → starts_with nat_eq text row.0 ≡ true
+    → starts_with nat_eq text other.0 ≡ true → length other.0 ≤ length row.0
+no_longer-front text row other sorted e f =
+    elim (nat_le (length other.0) (length row.0)) as (λ b. nat_le (length other.0) (length row.0) ≡ b
+    → (b || not (starts_with nat_eq other.0 row.0)) ≡ true → length other.0 ≤ length row.0) [
+      | true ↦ λ fewer apart. not_more (length other.0) (length row.0) fewer
+      | false ↦ λ longer apart. absurd (false≢true (sym (not-false (starts_with nat_eq other.0 row.0) apart)
+          ∙ front-front text row.0 other.0 e f (more (length other.0) (length row.0) longer)))
+    ] refl sorted
 
 -- a row that is found and is not the first is found among the others
 later : (q : Row → Bool) (head : Row) (rows : List Row) (row : Row) → find q (head ∷ rows) ≡ Some row → head ≢ row → find q rows ≡ Some row
@@ -175,19 +201,20 @@ not_head text head rows row true e absent got itself =
     absurd (false≢true (sym absent ∙ rw bytes (found-passes (λ (r : Row). starts_with nat_eq text r.0) rows row got)))
 not_head text head rows row false e absent got itself = rw e itself
 
--- the first row that passes is no shorter than another that passes
-found-longest : (p q : Row → Bool) (rows : List Row) (row other : Row) → is_longest_first rows ≡ true → find p rows ≡ Some row
-    → find q rows ≡ Some other → p other ≡ true → length other.0 ≤ length row.0
-found-longest p q [] row other sorted e f passes = absurd cc
-found-longest p q (head ∷ rows) row other sorted e f passes =
-    let below = and_first (list_all (λ (o : Row). nat_le (length o.0) (length head.0)) rows) (is_longest_first rows) sorted in
-    let all : list_all (λ (o : Row). nat_le (length o.0) (length head.0)) (head ∷ rows) ≡ true = rw (le_itself (length head.0), below) refl in
-    elim (p head) as (λ b. p head ≡ b → cond b (Some head) (find p rows) ≡ Some row → length other.0 ≤ length row.0) [
+-- the first row at the front of a text is no shorter than another that stands there
+found-longest : (text : List ℕ) (q : Row → Bool) (rows : List Row) (row other : Row) → is_longest_first rows ≡ true → row_at rows text ≡ Some row
+    → find q rows ≡ Some other → starts_with nat_eq text other.0 ≡ true → length other.0 ≤ length row.0
+found-longest text q [] row other sorted e f passes = absurd cc
+found-longest text q (head ∷ rows) row other sorted e f passes =
+    let below = and_first (list_all (is_no_longer head) rows) (is_longest_first rows) sorted in
+    let all : list_all (is_no_longer head) (head ∷ rows) ≡ true = rw (no_longer-itself head, below) refl in
+    elim (starts_with nat_eq text head.0) as (λ b. starts_with nat_eq text head.0 ≡ b → cond b (Some head) (row_at rows text) ≡ Some row
+    → length other.0 ≤ length row.0) [
       | true ↦ λ here got. let same : head ≡ row = cc in
-          rw (← same) (not_more (length other.0) (length head.0) (found-all q (λ (o : Row). nat_le (length o.0) (length head.0)) (head ∷ rows) other all f))
-      | false ↦ λ here got. found-longest p q rows row other
-          (and_second (list_all (λ (o : Row). nat_le (length o.0) (length head.0)) rows) (is_longest_first rows) sorted) got
-          (later q head rows other f (λ (same : head ≡ other). false≢true (sym here ∙ ap p same ∙ passes))) passes
+          rw (← same) (no_longer-front text head other (found-all q (is_no_longer head) (head ∷ rows) other all f) here passes)
+      | false ↦ λ here got. found-longest text q rows row other
+          (and_second (list_all (is_no_longer head) rows) (is_longest_first rows) sorted) got
+          (later q head rows other f (λ (same : head ≡ other). false≢true (sym here ∙ ap (λ (r : Row). starts_with nat_eq text r.0) same ∙ passes))) passes
     ] refl e
 
 -- a row that is found and is none of the passed ones
@@ -219,7 +246,7 @@ sign-longest text row sign found others after other parts (number _ value c) =
     absurd (false≢true (sym sign ∙ rw (← same) (digit-word (get_or others 0 0) (constant-first others value c))))
 sign-longest text row sign found others after other parts (operator _ r e) =
     let same = (operator-sign others r e).same in
-    rw (← same) (found-longest (λ (s : Row). starts_with nat_eq text s.0) (λ (s : Row). bytes_eq s.0 others) operators row r
+    rw (← same) (found-longest text (λ (s : Row). bytes_eq s.0 others) operators row r
     operators-longest_first found e (starts-at text r.0 after (rw same parts)))
 
 sign_none : (text : List ℕ) → is_word_byte (get_or text 0 0) ≡ false → row_at operators text ≡ None

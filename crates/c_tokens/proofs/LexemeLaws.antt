@@ -84,7 +84,7 @@ pub record IsSign (bytes : List ℕ) (row : Row) : Type 0 where
   pub other : is_word_byte (get_or bytes 0 0) ≡ false
   pub some : 0 < length bytes
 
-not-false : (b : Bool) → not b ≡ true → b ≡ false
+pub not-false : (b : Bool) → not b ≡ true → b ≡ false
 not-false true e = absurd cc
 not-false false e = refl
 

@@ -4,6 +4,7 @@ pub mod Behind
 pub mod ConstantLaws
 pub mod WordText
 pub mod Rows
+pub mod Listed
 pub mod LexemeLaws
 pub mod FoundLaws
 pub mod GapLaws

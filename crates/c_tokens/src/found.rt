@@ -2,8 +2,7 @@
 ghost use Rattle.std.specs.Prelude.{◌≡◌, ℕ, ◌==◌, ◌<◌, ◌≤◌, ◌^◌, length, Option, IfOk, IsTrue, slice_index, option_map, min};
 ghost use Rattle.std.specs.List.{list_all};
 ghost use Rattle.c_tokens.specs.Bytes.{is_digit, is_word_byte};
-ghost use Rattle.c_tokens.specs.Tables as Tables;
-ghost use Rattle.c_tokens.specs.Tables.{rows_of};
+ghost use Rattle.c_tokens.specs.Tables.{operators};
 ghost use Rattle.c_tokens.specs.Lexemes.{token, found_of, row_at};
 ghost use Rattle.c_tokens.specs.Scanned.{IsWithin, word_found, value_found, row_found, constant_found, lexeme_found};
 ghost use Rattle.c_tokens.specs.Gaps.{Stands};
@@ -12,8 +11,7 @@ use crate::Kind;
 use crate::bytes::{is_digit, is_word_byte, word_len};
 use crate::constants::{LIMIT, constant_of};
 use crate::gaps::{Opening, comment_found, line_len, opening_of};
-use crate::tables::Row;
-use crate::words::{kind_in, row_at, word_kind};
+use crate::words::{kind_in, operator_at, word_kind};
 use std::alloc::{AllocError, Global};
 
 /// What stands at a place of a text, before its end.
@@ -75,61 +73,43 @@ fn constant_found(text: &[u8]) -> Found
 }
 
 // What a word is.
-fn word_found(alloc: Global, rows: &[Row], word: &[u8]) -> Result<Found, AllocError>
-    requires table { rows_of rows.now ≡ Tables.keywords }
-    requires words { IsTrue (list_all is_word_byte word.now) }
+fn word_found(alloc: Global, word: &[u8]) -> Result<Found, AllocError>
+    requires { IsTrue (list_all is_word_byte word.now) }
     ensures { IfOk result (λ found. found ≡ word_found word.now) }
 {
-    let kind = word_kind(alloc, rows, word)?;
+    let kind = word_kind(alloc, word)?;
     Ok(token_found(kind, word.len()))
 }
 
 // What begins as an operator does.
-fn operator_found(rows: &[Row], text: &[u8]) -> Result<Found, AllocError>
-    requires table { rows_of rows.now ≡ Tables.operators }
-    ensures { IfOk result (λ found. found ≡ row_found (row_at Tables.operators text.now)) }
+fn operator_found(text: &[u8]) -> Found
+    ensures { result ≡ row_found (row_at operators text.now) }
 {
-    let Some(row) = row_at(rows, text) else {
-        return Ok(Found::NoToken);
-    };
-    let kind = kind_in(row)?;
-    Ok(token_found(kind, row.0.len()))
+    match operator_at(text) {
+        Some(row) => token_found(kind_in(row), row.0.len()),
+        None => Found::NoToken,
+    }
 }
 
 // What a text begins with in which no gap begins there.
 #[tactic(auto, unfolding(crate::specs::Scanned::lexeme_found))]
-fn lexeme_found(
-    alloc: Global,
-    keywords: &[Row],
-    operators: &[Row],
-    text: &[u8],
-) -> Result<Found, AllocError>
-    requires some { 0 < length text.now }
-    requires words { rows_of keywords.now ≡ Tables.keywords }
-    requires signs { rows_of operators.now ≡ Tables.operators }
+fn lexeme_found(alloc: Global, text: &[u8]) -> Result<Found, AllocError>
+    requires { 0 < length text.now }
     ensures { IfOk result (λ found. found ≡ lexeme_found text.now) }
 {
     if is_digit(text[0]) {
         return Ok(constant_found(text));
     }
     if is_word_byte(text[0]) {
-        return word_found(alloc, keywords, &text[..word_len(text)]);
+        return word_found(alloc, &text[..word_len(text)]);
     }
-    operator_found(operators, text)
+    Ok(operator_found(text))
 }
 
 /// What stands at the front of a text that is not empty; `front` says whether it is the front of a line, blanks aside.
-pub fn found_at(
-    alloc: Global,
-    keywords: &[Row],
-    operators: &[Row],
-    front: bool,
-    text: &[u8],
-) -> Result<Found, AllocError>
+pub fn found_at(alloc: Global, front: bool, text: &[u8]) -> Result<Found, AllocError>
     requires some { 0 < length text.now }
     requires small { length text.now < 2 ^ 32 }
-    requires words { rows_of keywords.now ≡ Tables.keywords }
-    requires signs { rows_of operators.now ≡ Tables.operators }
     ensures found { IfOk result (Stands front text.now) }
     ensures within { IfOk result (λ found. IsWithin found (length text.now)) }
 {
@@ -137,6 +117,6 @@ pub fn found_at(
         Opening::White => Ok(Found::Gap(1)),
         Opening::Comment => Ok(comment_found(&text[2..])),
         Opening::Line => Ok(Found::Gap(line_len(text))),
-        Opening::Other => lexeme_found(alloc, keywords, operators, text),
+        Opening::Other => lexeme_found(alloc, text),
     }
 }

@@ -10,6 +10,7 @@
 mod bytes;
 mod constants;
 mod fault;
+mod fixed;
 mod found;
 mod gaps;
 mod kind;

@@ -1,7 +1,5 @@
 //! The tokens of a text, from place to place.
 ghost use Rattle.std.specs.Prelude.{◌≡◌, ◌≤◌, ◌<◌, ◌+◌, ◌++◌, ◌^◌, ℕ, List, length, IfOk, IfErr, OnOk, IsUtf8, option_to_list, MatchResult, ◌⊎◌};
-ghost use Rattle.c_tokens.specs.Tables as Tables;
-ghost use Rattle.c_tokens.specs.Tables.{rows_of};
 ghost use Rattle.c_tokens.specs.declared.token.Token.{Token};
 ghost use Rattle.c_tokens.specs.declared.fault.TokenFault.{TokenFault};
 ghost use Rattle.c_tokens.specs.Steps.{IsStep};
@@ -9,7 +7,6 @@ ghost use Rattle.c_tokens.specs.Tokens.{AreTokens, IsFault, IsFirstFault, HasOne
 
 use crate::found::{Found, found_at};
 use crate::place::{Place, after_bytes};
-use crate::tables::{Row, keywords, operators};
 use crate::{Token, TokenFault};
 use c_ast::Name;
 use std::alloc::{AllocError, AllocFailed, Global};
@@ -31,17 +28,9 @@ fn unsupported(alloc: Global, word: &[u8], place: Place) -> Result<TokenFault, A
 }
 
 // The token at a place, if one stands there, and how many bytes stand there as one.
-fn step(
-    alloc: Global,
-    words: &[Row],
-    signs: &[Row],
-    place: Place,
-    rest: &[u8],
-) -> Result<(Option<Token>, usize), TokenFault>
+fn step(alloc: Global, place: Place, rest: &[u8]) -> Result<(Option<Token>, usize), TokenFault>
     requires some { 0 < length rest.now }
     requires small { length rest.now < 2 ^ 32 }
-    requires words { rows_of words.now ≡ Tables.keywords }
-    requires signs { rows_of signs.now ≡ Tables.operators }
     ensures { IsStep place rest.now result }
 {
     let Place {
@@ -49,7 +38,7 @@ fn step(
         column,
         front,
     } = place;
-    match found_at(alloc, words, signs, front, rest)? {
+    match found_at(alloc, front, rest)? {
         Found::Gap(len) => Ok((None, len)),
         Found::Token(kind, len) => Ok((Some(Token { kind, line, column }), len)),
         Found::NoToken => Err(TokenFault::NoToken { line, column }),
@@ -73,8 +62,6 @@ fn scanned(alloc: Global, text: &[u8]) -> Result<Vec<Token>, TokenFault>
     ensures tokens { IfOk result (λ tokens. AreTokens text.now tokens.items) }
     ensures fault { IfErr result (IsFault text.now) }
 {
-    let words = keywords();
-    let signs = operators();
     let mut tokens = Vec::new(alloc);
     let mut place = Place {
         line: 1,
@@ -84,7 +71,7 @@ fn scanned(alloc: Global, text: &[u8]) -> Result<Vec<Token>, TokenFault>
     let mut at = 0;
     while at < text.len() {
         let rest = text.split_at(at).1;
-        let (token, len) = step(alloc, &words, &signs, place, rest)?;
+        let (token, len) = step(alloc, place, rest)?;
         push_some(&mut tokens, token)?;
         place = after_bytes(place, &rest[..len]);
         at += len;

@@ -1,63 +1,31 @@
 //! Texts, and the tokens that C reads in each (ISO C11, 6.4).
-use crate::tables::{keywords, operators};
+use crate::tables::{KEYWORDS, OPERATORS};
 use crate::{Kind, Token, TokenFault, tokens};
 use std::alloc::{AllocError, Global};
 use std::test::Fail;
 
-// The spelling of a kind that has one.
-fn spelling_of(kind: &Kind) -> &'static str {
-    match kind {
-        Kind::MarkWord => "__mark",
-        Kind::Break => "break",
-        Kind::Continue => "continue",
-        Kind::Do => "do",
-        Kind::Else => "else",
-        Kind::Extern => "extern",
-        Kind::For => "for",
-        Kind::If => "if",
-        Kind::Int => "int",
-        Kind::Long => "long",
-        Kind::Return => "return",
-        Kind::Static => "static",
-        Kind::Void => "void",
-        Kind::While => "while",
-        Kind::OpenRound => "(",
-        Kind::CloseRound => ")",
-        Kind::OpenCurly => "{",
-        Kind::CloseCurly => "}",
-        Kind::Semicolon => ";",
-        Kind::Comma => ",",
-        Kind::Plus => "+",
-        Kind::Minus => "-",
-        Kind::Star => "*",
-        Kind::Less => "<",
-        Kind::LessEq => "<=",
-        Kind::Greater => ">",
-        Kind::GreaterEq => ">=",
-        Kind::Equal => "==",
-        Kind::NotEqual => "!=",
-        Kind::Amp => "&",
-        Kind::AmpAmp => "&&",
-        Kind::BarBar => "||",
-        Kind::Bang => "!",
-        Kind::Question => "?",
-        Kind::Colon => ":",
-        Kind::Assign => "=",
-        Kind::PlusAssign => "+=",
-        Kind::MinusAssign => "-=",
-        Kind::StarAssign => "*=",
-        Kind::PlusPlus => "++",
-        Kind::MinusMinus => "--",
-        Kind::Word(_) | Kind::Constant(_) => "?",
+// The spelling of a kind that has one. The token of a row has the name of its kind.
+fn spelling_of(alloc: Global, kind: &Kind) -> Result<&'static str, AllocError> {
+    let name = format!(in alloc; "{kind:?}")?;
+    for table in [KEYWORDS.as_slice(), OPERATORS.as_slice()] {
+        for (spelling, fixed) in table {
+            if let Some(fixed) = fixed {
+                if format!(in alloc; "{fixed:?}")?.as_str() == name.as_str() {
+                    return Ok(*spelling);
+                }
+            }
+        }
     }
+    Ok("?")
 }
 
 // Writes a token as its spelling, its line and its column; a name has quotes around it, and a constant is its value.
-fn show_token(token: &Token, out: &mut String) -> Result<(), AllocError> {
+fn show_token(alloc: Global, token: &Token, out: &mut String) -> Result<(), AllocError> {
     match &token.kind {
+        Kind::MarkWord => out.push_str("__mark")?,
         Kind::Word(name) => write!(out, "'{}'", name.text())?,
         Kind::Constant(value) => write!(out, "{value}")?,
-        kind => out.push_str(spelling_of(kind))?,
+        kind => out.push_str(spelling_of(alloc, kind)?)?,
     }
     write!(out, "@{}:{}", token.line, token.column)
 }
@@ -72,7 +40,7 @@ fn shown(alloc: Global, text: &[u8]) -> Result<String, Fail> {
         Ok(tokens) => {
             for (i, token) in tokens.iter().enumerate() {
                 out.push_str(if i == 0 { "" } else { " " })?;
-                show_token(token, &mut out)?;
+                show_token(alloc, token, &mut out)?;
             }
         }
         Err(TokenFault::NoToken { line, column }) => write!(out, "no token {line}:{column}")?,
@@ -240,39 +208,21 @@ fn a_comment_may_fill_the_longest_text(rt: HostRuntime) -> Result<(), Fail> {
     Ok(())
 }
 
-// The words and the operators of C, and those of the profile among them.
-const WORDS: &str =
-    "auto break case char const continue default do double else enum extern float for goto if inline int \
-    long register restrict return short signed sizeof static struct switch typedef union unsigned void volatile while \
-    _Alignas _Alignof _Atomic _Bool _Complex _Generic _Imaginary _Noreturn _Static_assert _Thread_local";
-
-const PROFILE_WORDS: &str =
-    "break continue do else extern for if int long return static void while";
-
-const SIGNS: &str =
-    "[ ] ( ) { } . -> ++ -- & * + - ~ ! / % << >> < > <= >= == != ^ | && || ? : ; ... = *= /= %= += -= \
-    <<= >>= &= ^= |= , # ## <: :> <% %> %: %:%:";
-
-const PROFILE_SIGNS: &str = "( ) { } ; , + - * < <= > >= == != & && || ! ? : = += -= *= ++ --";
-
 #[test]
-fn each_word_and_operator_is_in_the_profile_or_not(rt: HostRuntime) -> Result<(), Fail> {
-    for (all, profile) in [(WORDS, PROFILE_WORDS), (SIGNS, PROFILE_SIGNS)] {
-        for word in all.split_whitespace() {
-            let wanted = if profile.split_whitespace().any(|each| each == word) {
-                format!(in rt.alloc(); "{word}@1:2")?
-            } else {
-                format!(in rt.alloc(); "unsupported {word} 1:2")?
+fn each_keyword_and_operator_is_in_the_profile_or_not(rt: HostRuntime) -> Result<(), Fail> {
+    for table in [KEYWORDS.as_slice(), OPERATORS.as_slice()] {
+        for (spelling, fixed) in table {
+            let wanted = match fixed {
+                Some(_) => format!(in rt.alloc(); "{spelling}@1:2")?,
+                None => format!(in rt.alloc(); "unsupported {spelling} 1:2")?,
             };
-            let text = format!(in rt.alloc(); " {word} ")?;
+            let text = format!(in rt.alloc(); " {spelling} ")?;
             assert_eq!(rt;
                 shown(rt.alloc(), text.as_bytes())?.as_str(),
                 wanted.as_str(),
-                "{word}"
+                "{spelling}"
             );
         }
     }
-    assert_eq!(rt; WORDS.split_whitespace().count(), keywords().len());
-    assert_eq!(rt; SIGNS.split_whitespace().count(), operators().len());
     Ok(())
 }

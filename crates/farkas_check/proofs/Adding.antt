@@ -1,15 +1,16 @@
 -- Sums that are made one row after the other, and the columns that blocks of sums cover.
-use Rattle.std.proofs.Common.{lit<, ◌≡◌, ℕ, zero, suc, ◌+◌, ◌-◌, ◌*◌, ◌<◌, ◌≤◌, ◌^◌, List, [], ◌∷◌, arith, refl, sym, ap, subst, length, get_or, set, take, drop, min, replicate, ◌∙◌, ⊎_elim}
-use Rattle.std.specs.Prelude.{ℤ, pos, ◌+ℤ◌, ◌*ℤ◌, unsigned_abs, All}
-use Rattle.std.specs.List.{AllByRecursion}
+use Rattle.std.proofs.Common.{lit<, ◌≡◌, ◌↔◌, ℕ, zero, suc, ◌+◌, ◌-◌, ◌*◌, ◌<◌, ◌≤◌, ◌^◌, List, [], ◌∷◌, arith, refl, sym, ap, subst, length, get_or, set, take, drop, min, replicate, ◌∙◌, ⊎_elim}
+use Rattle.std.specs.Prelude.{ℤ, pos, negsuc, ◌≤ℤ◌, ◌+ℤ◌, ◌*ℤ◌, unsigned_abs, All}
+use Rattle.std.specs.List.{AllZip, AllByRecursion}
 use Rattle.std.proofs.lemmas.Int.{ints}
 use Rattle.std.proofs.lemmas.Bool.{cases_lt}
+use Rattle.std.proofs.Math.ListN.{drop_of_length-le}
 use Rattle.std.proofs.lemmas.List.{drop_more, get_or_past, get_or-map, get_or-take, get_or-drop, get_or-set_same, get_or-set_other, take_rest, drop_min, take_min}
 use Rattle.std.proofs.lemmas.List.Elements.{All-get_or, All-from_get_or, All-take, All-drop, recursion_from_All}
 use Rattle.lin_terms.specs.declared.row.Row.{Row}
 use Rattle.lin_terms.specs.Vectors.{dot}
 use Rattle.lin_terms.specs.Row.{IsNarrow, IsNarrowRow, columns_of, HaveOneLength}
-use Rattle.farkas_check.specs.Refutes.{column, constants}
+use Rattle.farkas_check.specs.Refutes.{column, constants, MayMultiply, Refutes}
 use Rattle.farkas_check.proofs.Wide.{unsigned_abs-product, unsigned_abs-sum}
 
 -- ---- one more product
@@ -25,6 +26,11 @@ summed ms xs i sum product all in_ms in_xs is so_far =
 pub grown : (i : ℕ) (sum product : ℤ) → unsigned_abs sum ≤ i * 2 ^ 112 → unsigned_abs product < 2 ^ 112
     → unsigned_abs (sum +ℤ product) ≤ (i + 1) * 2 ^ 112
 grown i sum product bound small = omega (arith, unsigned_abs-sum sum product)
+
+-- all products are added
+pub summed_all : (ms xs : List ℤ) (i : ℕ) (sum all : ℤ) → length ms ≤ i → sum +ℤ dot (drop i ms) (drop i xs) ≡ all → sum ≡ all
+summed_all ms xs i sum all past so_far =
+    let at_end = rw (drop_of_length-le ms past) at so_far in omega (arith, ints)
 
 length-constants : (rows : List Row) → length (constants rows) ≡ length rows
 length-constants [] = refl
@@ -44,6 +50,22 @@ constant_summed ms rows i row sum product all as_many below is made so_far =
     let at_row : get_or (constants rows) i (pos 0) ≡ row.constant = get_or-map (λ (r : Row). r.constant) rows i row (pos 0) below ∙ ap (λ (r : Row). r.constant) (sym is) in
     summed ms (constants rows) i sum product all (omega arith) (omega (arith, length-constants rows))
     (made ∙ ap (λ z. get_or ms i (pos 0) *ℤ z) (sym at_row)) so_far
+
+-- ---- the signs
+
+pub signs_more : (rows : List Row) (ms : List ℤ) (i : ℕ) (row : Row) → length ms ≡ length rows → i < length rows
+    → row ≡ get_or rows i row → MayMultiply row (get_or ms i (pos 0))
+    → AllZip MayMultiply rows ms ↔ AllZip MayMultiply (drop i rows) (drop i ms)
+    → AllZip MayMultiply rows ms ↔ AllZip MayMultiply (drop (i + 1) rows) (drop (i + 1) ms)
+signs_more rows ms i row as_many below is may so_far =
+    let next = rw (drop_more rows i row below, drop_more ms i (pos 0) (omega arith)) at so_far in
+    (λ signs. (next.0 signs).1, λ others. next.1 (subst (λ (r : Row). MayMultiply r (get_or ms i (pos 0))) is may, others))
+
+pub signs_all : (rows : List Row) (ms : List ℤ) (i : ℕ) → length ms ≡ length rows → length rows ≤ i
+    → AllZip MayMultiply rows ms ↔ AllZip MayMultiply (drop i rows) (drop i ms) → AllZip MayMultiply rows ms
+signs_all rows ms i as_many past so_far =
+    let past_ms : length ms ≤ i = omega arith in
+    let at_end = rw (drop_of_length-le rows past, drop_of_length-le ms past_ms) at so_far in at_end.1 tt
 
 -- ---- entries that are added to sums
 
@@ -117,22 +139,25 @@ block_summed ms rows i first k row old new all as_many below is in_block made so
 abbrev pub AreSums : ℕ → List ℤ → List Row → List ℤ → Type 0
 AreSums first ms rows sums = (k : ℕ) → k < 32 → get_or sums k (pos 0) ≡ dot ms (column (first + k) rows)
 
-pub zeros_more : (block : ℕ) (ms : List ℤ) (rows : List Row) (sums : List ℤ) → length sums ≡ 32 → AreSums (block * 32) ms rows sums
-    → All (λ sum. sum ≡ pos 0) sums → ((j : ℕ) → j < block * 32 → dot ms (column j rows) ≡ pos 0)
-    → (j : ℕ) → j < (block + 1) * 32 → dot ms (column j rows) ≡ pos 0
-zeros_more block ms rows sums long are_sums zeros before j below =
-    ⊎_elim (λ (h : j < block * 32). before j h)
-    (λ (h : block * 32 ≤ j).
-    let k : ℕ = j - block * 32 in
-    let in_block : k < 32 = omega arith in
-    let is : block * 32 + k ≡ j = omega arith in
-    subst (λ n. dot ms (column n rows) ≡ pos 0) is (sym (are_sums k in_block) ∙ All-get_or (λ (sum : ℤ). sum ≡ pos 0) sums k (pos 0) (omega arith) zeros))
-    (cases_lt j (block * 32))
+-- the columns of one more block
+pub zeros_more : (walk : ℕ) (ms : List ℤ) (rows : List Row) → ((k : ℕ) → k < 32 → dot ms (column (walk * 32 + k) rows) ≡ pos 0)
+    → ((j : ℕ) → j < walk * 32 → dot ms (column j rows) ≡ pos 0)
+    → (j : ℕ) → j < (walk + 1) * 32 → dot ms (column j rows) ≡ pos 0
+zeros_more walk ms rows zeros before j below =
+    ⊎_elim (λ (h : j < walk * 32). before j h)
+    (λ (h : walk * 32 ≤ j).
+    let k : ℕ = j - walk * 32 in
+    let is : walk * 32 + k ≡ j = omega arith in
+    subst (λ n. dot ms (column n rows) ≡ pos 0) is (zeros k (omega arith)))
+    (cases_lt j (walk * 32))
 
-pub zeros_in_block : (first : ℕ) (ms : List ℤ) (rows : List Row) (sums : List ℤ) → length sums ≡ 32 → AreSums first ms rows sums
-    → ((j : ℕ) → dot ms (column j rows) ≡ pos 0) → All (λ sum. sum ≡ pos 0) sums
-zeros_in_block first ms rows sums long are_sums zeros =
-    All-from_get_or (λ (sum : ℤ). sum ≡ pos 0) sums (pos 0) (λ k below. are_sums k (omega arith) ∙ zeros (first + k))
+-- a block of sums that are all 0
+pub zeros_block : (first : ℕ) (ms : List ℤ) (rows : List Row) (sums : List ℤ) → length sums ≡ 32 → AreSums first ms rows sums
+    → All (λ sum. sum ≡ pos 0) sums ↔ ((k : ℕ) → k < 32 → dot ms (column (first + k) rows) ≡ pos 0)
+zeros_block first ms rows sums long are_sums = (
+  λ zeros k below. sym (are_sums k below) ∙ All-get_or (λ (sum : ℤ). sum ≡ pos 0) sums k (pos 0) (omega arith) zeros,
+  λ zeros. All-from_get_or (λ (sum : ℤ). sum ≡ pos 0) sums (pos 0) (λ k below. are_sums k (omega arith) ∙ zeros k (omega arith)),
+)
 
 -- past the rows' length a column is 0
 dot-past : (n : ℕ) (ms : List ℤ) (rows : List Row) (j : ℕ) → n ≤ j → AllByRecursion (λ row. length row.coefs ≡ n) rows
@@ -149,3 +174,13 @@ zeros_all covered ms rows one_length enough zeros j =
     ⊎_elim (λ (h : j < covered). zeros j h)
     (λ (h : covered ≤ j). dot-past n ms rows j (omega arith) (recursion_from_All (λ (row : Row). length row.coefs ≡ n) rows one_length))
     (cases_lt j covered)
+
+-- blocks that cover all columns
+pub refuted : (walks : ℕ) (ms : List ℤ) (rows : List Row) → HaveOneLength rows → columns_of rows ≤ walks * 32 → 0 < walks
+    → (0 < walks → AllZip MayMultiply rows ms) → (0 < walks → dot ms (constants rows) ≤ℤ negsuc 0)
+    → ((j : ℕ) → j < walks * 32 → dot ms (column j rows) ≡ pos 0) → Refutes rows ms
+refuted walks ms rows one_length enough some signs negative zeros = record {
+  signs = signs some;
+  no_variable = zeros_all (walks * 32) ms rows one_length enough zeros;
+  negative_constant = negative some;
+}

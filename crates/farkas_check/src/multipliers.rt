@@ -1,36 +1,15 @@
-//! The check: the signs of the multipliers, then the constant of the sum, then its columns.
-ghost use Rattle.std.specs.Prelude.{◌≡◌, ℕ, ◌↔◌, ◌≤ℤ◌, pos, negsuc, All, IsTrue, length};
-ghost use Rattle.std.specs.List.{AllZip};
+//! The check: one walk over the rows for each block of columns.
+ghost use Rattle.std.specs.Prelude.{◌≡◌, ◌↔◌, pos, All, IsTrue};
 ghost use Rattle.lin_terms.specs.Row.{columns_of, HasNoPoint, HasNoIntegerPoint};
-ghost use Rattle.lin_terms.specs.Vectors.{dot};
-ghost use Rattle.farkas_check.specs.Refutes.{column, constants, MayMultiply, Refutes, IsCheckable};
+ghost use Rattle.farkas_check.specs.Refutes.{MayMultiply, Refutes, RefutesBlock, IsCheckable};
 
-use crate::sums::{WIDTH, column_sums, constant_sum};
+use crate::sums::{WIDTH, add_entries, block, product};
 use lin_terms::Row;
 
 fn may_multiply(row: &Row, multiplier: &i128) -> bool
     ensures { IsTrue result ↔ MayMultiply row.now multiplier.now }
 {
     row.equality || *multiplier >= 0
-}
-
-fn all_may_multiply(rows: &[Row], multipliers: &[i128]) -> bool
-    requires { length multipliers.now ≡ length rows.now }
-    ensures { IsTrue result ↔ AllZip MayMultiply rows.now multipliers.now }
-{
-    for (i, row) in rows.iter().enumerate() {
-        if !may_multiply(row, &multipliers[i]) {
-            return false;
-        }
-    }
-    true
-}
-
-fn leave_negative_constant(rows: &[Row], multipliers: &[i128]) -> bool
-    requires { IsCheckable rows.now multipliers.now }
-    ensures { IsTrue result ↔ (dot multipliers.now (constants rows.now) ≤ℤ negsuc 0) }
-{
-    constant_sum(rows, multipliers) < 0
 }
 
 fn are_zeros(sums: &[i128]) -> bool
@@ -49,16 +28,23 @@ pub fn columns_of(rows: &[Row]) -> usize
     }
 }
 
-fn leave_no_variable(rows: &[Row], multipliers: &[i128]) -> bool
+/// Whether the multipliers may multiply their rows, and the sum of the rows has a constant of at most -1 and zeros in the
+/// block of columns from `first` on. This is one walk over the rows.
+fn refutes_block(rows: &[Row], multipliers: &[i128], first: usize) -> bool
     requires { IsCheckable rows.now multipliers.now }
-    ensures { IsTrue result ↔ ((j : ℕ) → dot multipliers.now (column j rows.now) ≡ pos 0) }
+    ensures { IsTrue result ↔ RefutesBlock first rows.now multipliers.now }
 {
-    for block in 0..columns_of(rows).div_ceil(WIDTH) {
-        if !are_zeros(&column_sums(rows, multipliers, block * WIDTH)) {
+    let mut columns = [0i128; WIDTH];
+    let mut constant = 0i128;
+    for (i, row) in rows.iter().enumerate() {
+        let multiplier = &multipliers[i];
+        if !may_multiply(row, multiplier) {
             return false;
         }
+        add_entries(&mut columns, multiplier, block(row, first));
+        constant += product(multiplier, &row.constant);
     }
-    true
+    constant < 0 && are_zeros(&columns)
 }
 
 /// Whether the rows, each times its multiplier, add up to a row without variables whose constant is at most -1, and no
@@ -78,7 +64,10 @@ pub fn refutes(rows: &[Row], multipliers: &[i128]) -> bool
     ensures no_integer_point { IsTrue result → HasNoIntegerPoint rows.now }
     ensures no_point { IsTrue result → HasNoPoint rows.now }
 {
-    all_may_multiply(rows, multipliers)
-        && leave_negative_constant(rows, multipliers)
-        && leave_no_variable(rows, multipliers)
+    for walk in 0..columns_of(rows).div_ceil(WIDTH).max(1) {
+        if !refutes_block(rows, multipliers, walk * WIDTH) {
+            return false;
+        }
+    }
+    true
 }

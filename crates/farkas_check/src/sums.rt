@@ -1,17 +1,16 @@
-//! Sums of entries times multipliers, in 128 bits. At most 4,096 products, each below 2^112 in size, are added.
+//! Entries times multipliers, which are added up in 128 bits: at most 4,096 products, each below 2^112 in size.
 //!
 //! The columns are added up in blocks, so that rows of at most `WIDTH` columns are walked once.
-ghost use Rattle.std.specs.Prelude.{◌≡◌, ℕ, ◌+◌, ◌<◌, ◌≤◌, ◌^◌, ◌+ℤ◌, ◌*ℤ◌, pos, unsigned_abs, All, length, slice_index_or, take, drop};
+ghost use Rattle.std.specs.Prelude.{◌≡◌, ℕ, ◌<◌, ◌≤◌, ◌^◌, ◌+ℤ◌, ◌*ℤ◌, pos, unsigned_abs, All, length, slice_index_or, take, drop};
 ghost use Rattle.lin_terms.specs.Row.{IsNarrow};
-ghost use Rattle.lin_terms.specs.Vectors.{dot};
-ghost use Rattle.farkas_check.specs.Refutes.{column, constants, IsCheckable};
 
 use lin_terms::Row;
 
 /// How many columns are added up in one walk over the rows.
 pub const WIDTH: usize = 32;
 
-fn product(multiplier: &i128, entry: &i64) -> i128
+/// A multiplier times an entry of its row.
+pub fn product(multiplier: &i128, entry: &i64) -> i128
     requires narrow_multiplier { IsNarrow multiplier.now }
     requires narrow { IsNarrow entry.now }
     ensures value { result ≡ multiplier.now *ℤ entry.now }
@@ -20,20 +19,8 @@ fn product(multiplier: &i128, entry: &i64) -> i128
     *multiplier * i128::from(*entry)
 }
 
-/// The sum of the constants, each times its row's multiplier.
-pub fn constant_sum(rows: &[Row], multipliers: &[i128]) -> i128
-    requires { IsCheckable rows.now multipliers.now }
-    ensures { result ≡ dot multipliers.now (constants rows.now) }
-{
-    let mut sum = 0i128;
-    for (i, row) in rows.iter().enumerate() {
-        sum += product(&multipliers[i], &row.constant);
-    }
-    sum
-}
-
 /// Adds the entries, each times the multiplier, to the sums that stand at their places.
-fn add_entries(sums: &mut [i128], multiplier: &i128, entries: &[i64])
+pub fn add_entries(sums: &mut [i128], multiplier: &i128, entries: &[i64])
     requires lengths { length entries.now ≤ length sums.old }
     requires narrow_multiplier { IsNarrow multiplier.now }
     requires narrow { All IsNarrow entries.now }
@@ -50,23 +37,10 @@ fn add_entries(sums: &mut [i128], multiplier: &i128, entries: &[i64])
 }
 
 /// The row's coefficients in the columns `first`, `first + 1` and so on, at most `WIDTH` of them.
-fn block(row: &Row, first: usize) -> &[i64]
+pub fn block(row: &Row, first: usize) -> &[i64]
     ensures { result.now ≡ take WIDTH (drop first row.now.coefs) }
 {
     let coefs = row.coefs.as_slice();
     let entries = &coefs[first.min(coefs.len())..];
     &entries[..WIDTH.min(entries.len())]
-}
-
-/// The sums of the columns `first`, `first + 1` and so on, each coefficient times its row's multiplier.
-pub fn column_sums(rows: &[Row], multipliers: &[i128], first: usize) -> [i128; WIDTH]
-    requires { IsCheckable rows.now multipliers.now }
-    ensures { (k : ℕ) → k < WIDTH → slice_index_or result k (pos 0)
-        ≡ dot multipliers.now (column (first + k) rows.now) }
-{
-    let mut sums = [0i128; WIDTH];
-    for (i, row) in rows.iter().enumerate() {
-        add_entries(&mut sums, &multipliers[i], block(row, first));
-    }
-    sums
 }

@@ -1,0 +1,11 @@
+pub mod Growing
+pub mod Laid
+pub mod Closing
+pub mod Simulates
+pub mod Counting
+pub mod Scoped
+pub mod Fitting
+pub mod Stopping
+pub mod Listing
+pub mod Places
+pub mod Whole

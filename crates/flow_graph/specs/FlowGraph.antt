@@ -1,0 +1,62 @@
+-- The parts of a flow graph, and what stands at its places.
+use Rattle.std.specs.Prelude.{ℕ, ◌==◌, List, [], ◌∷◌, ◌++◌, Option, Some, None, IsSome, map, find, slice_get}
+use Rattle.std.specs.Option.{option_map}
+use Rattle.c_ast.specs.declared.place.Place.{Place}
+use Rattle.c_ast.specs.declared.place.Place.TheVariants as place
+use Rattle.c_ast.specs.Step.{first_variables}
+use Rattle.c_ast.specs.Scope.{variables_in}
+use Rattle.flow_graph.specs.declared.op.Op.{Op}
+use Rattle.flow_graph.specs.declared.stop.Stop.{Stop}
+use Rattle.flow_graph.specs.Operation.{Operation, operation_of}
+
+-- the numbers of parameters and of variables, the nodes by number, the node at which a run begins, and the marks
+pub record FlowGraph : Type 0 where
+  pub params : ℕ
+  pub vars : ℕ
+  pub ops : List Op
+  pub entry : ℕ
+  pub stops : List Stop
+
+-- the operation of the node with this number, where there is one
+abbrev pub operation_at : FlowGraph → ℕ → Option Operation
+operation_at graph node = option_map operation_of (slice_get graph.ops node)
+
+-- what the graph knows of a mark
+abbrev pub stop_of : List Stop → ℕ → Option Stop
+stop_of stops mark = find (λ stop. stop.mark == mark) stops
+
+abbrev pub next_of : Option Stop → ℕ
+next_of None = 0
+next_of (Some stop) = stop.next
+
+abbrev pub scope_of_stop : Option Stop → List ℕ
+scope_of_stop None = []
+scope_of_stop (Some stop) = stop.scope
+
+-- the node at which a run goes on from the place
+abbrev pub node_after : FlowGraph → Place → ℕ
+node_after graph place.Entry = graph.entry
+node_after graph (place.Mark mark) = next_of (stop_of graph.stops mark)
+node_after graph place.Exit = 0
+
+-- the variables in scope at the place, by rising number; at the exit the result alone has a value
+abbrev pub variables_at : FlowGraph → Place → List ℕ
+variables_at graph place.Entry = variables_in (first_variables graph.params) graph.vars
+variables_at graph (place.Mark mark) = scope_of_stop (stop_of graph.stops mark)
+variables_at graph place.Exit = []
+
+-- the entry, the marks, and the exit
+abbrev pub places_of : FlowGraph → List Place
+places_of graph = place.Entry ∷ map (λ stop. place.Mark stop.mark) graph.stops ++ place.Exit ∷ []
+
+-- The place is one of the graph's, at which a run goes on: the entry or a mark.
+abbrev pub GoesOnAt : FlowGraph → Place → Type 0
+GoesOnAt graph place.Entry = Unit {0}
+GoesOnAt graph (place.Mark mark) = IsSome (stop_of graph.stops mark)
+GoesOnAt graph place.Exit = ⊥
+
+-- The place is one of the graph's.
+abbrev pub HasPlace : FlowGraph → Place → Type 0
+HasPlace graph place.Entry = Unit {0}
+HasPlace graph (place.Mark mark) = IsSome (stop_of graph.stops mark)
+HasPlace graph place.Exit = Unit {0}

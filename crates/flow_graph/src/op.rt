@@ -1,0 +1,15 @@
+//! The nodes of a graph.
+use c_ast::Expr;
+
+/// What a node does, and the numbers of the nodes that may come next.
+#[derive(Debug, Drop)]
+pub enum Op {
+    /// The variable with this number takes the value.
+    Set { var: u32, value: Expr, next: u32 },
+    /// The first node comes next where the condition is not 0, and the second where it is 0.
+    Branch { cond: Expr, yes: u32, no: u32 },
+    /// This mark is passed.
+    Mark { mark: u32, next: u32 },
+    /// The run ends with the value.
+    Return(Expr),
+}

@@ -1,0 +1,2 @@
+pub mod Narrowness
+pub mod Running

@@ -1,0 +1,39 @@
+//! Runs, a step after another.
+ghost use Rattle.std.specs.Prelude.{◌≡◌, length};
+ghost use Rattle.graph_run.specs.Answers.{AreNarrow, Answers};
+
+use crate::Skip;
+use crate::step::{Next, event, first_environment, step};
+use c_ast::{Place, Trace};
+use flow_graph::Graph;
+use sqlite_items::Items;
+use std::alloc::Global;
+
+/// The trace of the graph's run, where the parameters have these values, each below 2^100 in size. `marks` is how many
+/// marks the run may pass; nothing else bounds it, since each cycle of the graph passes a mark.
+pub fn run(alloc: Global, graph: &Graph, input: &[i128], marks: u32) -> Result<Trace, Skip>
+    requires arity { length input.now ≡ graph.now.params }
+    requires narrow { AreNarrow input.now }
+    ensures { Answers graph.now input.now marks result }
+{
+    let mut values = first_environment(alloc, graph.vars(), input)?;
+    let environment = values.as_mut_slice();
+    let mut events = Items::new(alloc);
+    let mut left = marks;
+    let mut node = graph.after(Place::Entry);
+    loop {
+        match step(graph.op(node), environment) {
+            Next::Goes(next) => node = next,
+            Next::Passes { mark, next } => {
+                if left == 0 {
+                    return Err(Skip::NotEnded);
+                }
+                left -= 1;
+                events.push(event(alloc, graph, mark, environment)?)?;
+                node = next;
+            }
+            Next::Ends(result) => return Ok(Trace { events, result }),
+            Next::Wide => return Err(Skip::Wide),
+        }
+    }
+}
