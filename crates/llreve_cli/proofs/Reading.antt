@@ -1,5 +1,5 @@
 -- What a refused part of a text says of the text.
-use Rattle.std.proofs.Common.{◌≡◌, ◌≢◌, ℕ, List, Option, Some, None}
+use Rattle.std.proofs.Common.{◌≡◌, ◌≢◌, ℕ, ◌<◌, List, Option, Some, None, refl}
 use Rattle.c_ast.specs.RawTree.{RawFunction}
 use Rattle.c_tokens.specs.declared.token.Token.{Token}
 use Rattle.c_tokens.specs.declared.fault.TokenFault.{TokenFault}
@@ -7,11 +7,15 @@ use Rattle.c_tokens.specs.declared.fault.TokenFault.TheVariants as tokens
 use Rattle.c_tokens.specs.declared.found.Found.{Found}
 use Rattle.c_tokens.specs.declared.found.Found.TheVariants as found
 use Rattle.c_tokens.specs.Tokens as follow
-use Rattle.c_tokens.specs.Tokens.{Follow, IsFirstFault, fault_at}
+use Rattle.c_tokens.specs.Tokens.{Follow, AreTokens, IsFirstFault, fault_at}
+use Rattle.c_reader.specs.declared.fault.ReadFault.{ReadFault}
+use Rattle.c_reader.specs.declared.fault.ReadFault.TheVariants as read
+use Rattle.c_reader.specs.Depth.{IsDeep, unit_depth}
+use Rattle.c_reader.specs.Units.{SpellsUnit}
 use Rattle.c_check.specs.declared.fault.CheckFault.{CheckFault}
 use Rattle.c_check.specs.declared.fault.CheckFault.TheVariants as check
 use Rattle.c_check.specs.Checked.{IsCheckFault}
-use Rattle.llreve_cli.specs.Reads.{Parses, IsTextFault}
+use Rattle.llreve_cli.specs.Reads.{Parses, IsUnread, IsTextFault}
 use Rattle.llreve_cli.specs.TextFaults.{of_check}
 
 -- ---- refusals of the checker
@@ -45,3 +49,10 @@ follow-no_want text place list ends (follow.stop _ at fault _ _ stands) is = fau
 
 pub first_fault-no_want : (text : List ℕ) (fault : TokenFault) → IsFirstFault text fault → fault ≢ tokens.Memory
 first_fault-no_want text fault first is = follow-no_want text 0 first.0 (Some fault) first.1 (cc)
+
+-- ---- refusals of the reader
+
+pub unread-no_want : (text : List ℕ) (fault : ReadFault) → IsUnread text fault → fault ≢ read.Memory
+unread-no_want text read.Deep unread is = cc
+unread-no_want text read.Grammar unread is = cc
+unread-no_want text read.Memory unread is = absurd unread.reason

@@ -7,7 +7,7 @@ use Rattle.llreve_cli.specs.declared.fault.Fault.TheVariants as fault
 use Rattle.llreve_cli.specs.declared.outcome.Outcome.{Outcome}
 use Rattle.llreve_cli.specs.declared.outcome.Outcome.TheVariants as outcome
 use Rattle.llreve_cli.specs.Texts.{fault_status, IsKeptOutcome}
-use Rattle.llreve_cli.proofs.Reading.{first_fault-no_want}
+use Rattle.llreve_cli.proofs.Reading.{first_fault-no_want, unread-no_want}
 use Rattle.llreve_cli.specs.Leads.{AreEquivalent, Leads, no_command, first_unread, first_long, second_unread, second_long, first_faulty, first_unparsed, first_unchecked, second_faulty, second_unparsed, second_unchecked, other_arity, other_forms, equal_forms}
 use Rattle.llreve_cli.specs.Tells.{Tells}
 
@@ -55,10 +55,10 @@ leads_kept words text before after o (first_long _ _ _ _) = tt
 leads_kept words text before after o (second_unread _ _ _ _ _ _) = tt
 leads_kept words text before after o (second_long _ _ _ _ _ _) = tt
 leads_kept words text before after o (first_faulty files fault first) = first_fault-no_want files.first_text fault first
-leads_kept words text before after o (first_unparsed files fault unread) = unread.no_want
+leads_kept words text before after o (first_unparsed files fault unread) = unread-no_want files.first_text fault unread
 leads_kept words text before after o (first_unchecked files fault unchecked) = unchecked.no_want
 leads_kept words text before after o (second_faulty files read fault reads first) = first_fault-no_want files.second_text fault first
-leads_kept words text before after o (second_unparsed files read fault reads unread) = unread.no_want
+leads_kept words text before after o (second_unparsed files read fault reads unread) = unread-no_want files.second_text fault unread
 leads_kept words text before after o (second_unchecked files read fault reads unchecked) = unchecked.no_want
 leads_kept words text before after o (other_arity _ _) = tt
 leads_kept words text before after o (other_forms _ _ _) = tt

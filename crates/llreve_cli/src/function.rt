@@ -1,6 +1,7 @@
 //! The function of a text: its tokens, their tree, and the tree with names resolved.
-ghost use Rattle.std.specs.Prelude.{◌≡◌, ◌≤◌, length, IfOk, IfErr};
-ghost use Rattle.llreve_cli.specs.Reads.{Reads, IsTextFault};
+ghost use Rattle.std.specs.Prelude.{◌≡◌, ◌≤◌, length, IfOk, IfErr, MatchResult};
+ghost use Rattle.c_ast.specs.Function.{Function};
+ghost use Rattle.llreve_cli.specs.Reads.{Reads, IsTextFault, HasOneReading};
 
 use c_ast::Func;
 use c_check::{CheckFault, check};
@@ -63,9 +64,8 @@ impl From<CheckFault> for TextFault {
     }
 }
 
-/// The function that a text is read as, or why it is read as none: its first faulty place, then what is wrong with its
-/// tokens, then the first rule that its tree breaks. The text has at most 65,536 bytes.
-pub fn read_function(alloc: Global, text: &[u8]) -> Result<Func, TextFault>
+// What comes is so.
+fn reading(alloc: Global, text: &[u8]) -> Result<Func, TextFault>
     requires { length text.now ≤ 65536 }
     ensures read { IfOk result (Reads text.now) }
     ensures refused { IfErr result (IsTextFault text.now) }
@@ -74,3 +74,24 @@ pub fn read_function(alloc: Global, text: &[u8]) -> Result<Func, TextFault>
     let unit = read_unit(alloc, &tokens)?;
     Ok(check(alloc, unit)?)
 }
+
+/// The function that a text is read as, or why it is read as none: its first faulty place, then what is wrong with its
+/// tokens, then the first rule that its tree breaks. The text has at most 65,536 bytes.
+pub fn read_function(alloc: Global, text: &[u8]) -> Result<Func, TextFault>
+    requires { length text.now ≤ 65536 }
+
+    // What comes is so.
+    ensures read { IfOk result (Reads text.now) }
+    ensures refused { IfErr result (IsTextFault text.now) }
+
+    // A text that is read as a function gives it, unless memory ran out.
+    ensures only { (made : Function) → Reads text.now made →
+        MatchResult result (λ given. given ≡ made) (λ fault. fault ≡ TextFault.Memory) }
+{
+    reading(alloc, text)
+}
+
+/// A law: a text is read as one function at most.
+pub fn one_reading()
+    ensures { HasOneReading }
+{}
