@@ -4,6 +4,7 @@
 //! the file stand for, `specs/Faults.antt` what a fault is, and `specs/Checked.antt` when each answer comes.
 #![tactic(auto)]
 
+mod checking;
 mod fault;
 mod laws;
 mod marks;
@@ -12,6 +13,7 @@ mod table;
 mod unit;
 mod walk;
 
+pub use checking::check;
 pub use fault::CheckFault;
 pub use laws::one_function;
 pub use unit::check;
