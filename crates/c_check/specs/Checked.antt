@@ -2,7 +2,7 @@
 use Rattle.std.specs.Prelude.{◌≡◌, ◌<◌, ◌≤◌, List, [], ◌∷◌, ◌++◌, length, map, Option, Some, None}
 use Rattle.c_ast.specs.RawTree.{RawFunction}
 use Rattle.c_ast.specs.declared.func.Var.{Var}
-use Rattle.c_ast.specs.Function.{Function, program_of}
+use Rattle.c_ast.specs.Function.{Function}
 use Rattle.c_ast.specs.View.{statements_of}
 use Rattle.c_check.specs.declared.fault.CheckFault.{CheckFault}
 use Rattle.c_check.specs.declared.fault.CheckFault.TheVariants as fault
@@ -51,12 +51,6 @@ IsCheckFault unit first = (f : RawFunction) × HoldsOne unit f × (fault_in f �
 abbrev pub Checks : List RawFunction → Function → Type 0
 Checks unit made = (f : RawFunction) × HoldsOne unit f × IsChecked f made
 
--- The functions have one name, the same parameters and variables, and bodies that stand for the same statements.
-pub record AreAlike (first second : Function) : Type 0 where
-  pub name : first.name ≡ second.name
-  pub vars : first.vars ≡ second.vars
-  pub program : program_of first ≡ program_of second
-
--- A file stands for one function.
+-- A file stands for one function at most.
 abbrev pub IsSameFunction : Type 0
-IsSameFunction = (unit : List RawFunction) (first second : Function) → Checks unit first → Checks unit second → AreAlike first second
+IsSameFunction = (unit : List RawFunction) (first second : Function) → Checks unit first → Checks unit second → first ≡ second

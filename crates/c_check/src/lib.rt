@@ -4,7 +4,6 @@
 //! the file stand for, `specs/Faults.antt` what a fault is, and `specs/Checked.antt` when each answer comes.
 #![tactic(auto)]
 
-mod checking;
 mod fault;
 mod laws;
 mod marks;
@@ -13,7 +12,6 @@ mod table;
 mod unit;
 mod walk;
 
-pub use checking::check;
 pub use fault::CheckFault;
 pub use laws::one_function;
 pub use unit::check;
