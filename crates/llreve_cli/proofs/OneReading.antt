@@ -10,7 +10,7 @@ use Rattle.c_tokens.proofs.OneAnswer.{answers-one}
 use Rattle.c_reader.specs.declared.fault.ReadFault.{ReadFault}
 use Rattle.c_reader.specs.declared.fault.ReadFault.TheVariants as read
 use Rattle.c_reader.specs.Units.{SpellsUnit}
-use Rattle.c_reader.proofs.FilesBack.{unit-one}
+use Rattle.c_reader.proofs.UnitCompleteness.{unit-one}
 use Rattle.c_check.specs.declared.fault.CheckFault.{CheckFault}
 use Rattle.c_check.specs.declared.fault.CheckFault.TheVariants as check
 use Rattle.c_check.proofs.Checking.{same_function}
