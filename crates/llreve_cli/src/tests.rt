@@ -154,7 +154,7 @@ fn texts_are_compared(rt: HostRuntime) -> Result<(), Fail> {
         (
             "int f(int a){;return a;}",
             "int f(int a){return a;}",
-            "2|unknown\n|",
+            "0|equivalent\n|",
         ),
         (
             "int f(int a){return 1125899906842623;}",
