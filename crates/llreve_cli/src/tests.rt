@@ -430,12 +430,13 @@ fn reads_and_writes_fail(rt: HostRuntime) -> Result<(), Fail> {
     Ok(())
 }
 
-/// The function of one parameter that it returns, and blanks up to a length.
+/// The function of one parameter that it returns, and a comment up to a length.
 fn blown_up(alloc: Global, length: usize) -> Result<String, AllocError> {
-    let mut text = String::from_str(alloc, "int f(int a){return a;}")?;
-    for _ in text.len()..length {
-        text.push(' ')?;
+    let mut text = String::from_str(alloc, "int f(int a){return a;}/*")?;
+    for _ in text.len()..length.saturating_sub(2) {
+        text.push('x')?;
     }
+    text.push_str("*/")?;
     Ok(text)
 }
 
