@@ -360,17 +360,10 @@ fn other_files_are_refused(rt: HostRuntime) -> Result<(), Fail> {
     Ok(())
 }
 
-// How a text is read whose middle stands between a front and a back, with parts this many times around it.
-fn answer(
-    alloc: Global,
-    ends: (&str, &str),
-    parts: (&str, &str),
-    times: u32,
-    middle: &str,
-) -> Result<&'static str, AllocError> {
-    let inner = around(alloc, parts.0, times, middle, parts.1)?;
+// How a text between two ends is read.
+fn answer(alloc: Global, ends: (&str, &str), inner: &str) -> Result<&'static str, AllocError> {
     let mut text = String::from_str(alloc, ends.0)?;
-    text.push_str(inner.as_str())?;
+    text.push_str(inner)?;
     text.push_str(ends.1)?;
     match read_unit(alloc, &tokens_of(alloc, text.as_str())?) {
         Ok(_) => Ok("read"),
@@ -480,14 +473,17 @@ fn depth_of_files_is_limited(rt: HostRuntime) -> Result<(), Fail> {
         (("", ""), ("int f(){} ", ""), "", 5000, "read", "read"),
     ];
     for (ends, parts, middle, times, here, past) in rows {
+        // With these parts this many times around the middle, and once more.
+        let inner = around(alloc, parts.0, times, middle, parts.1)?;
+        let deeper = around(alloc, parts.0, 1, inner.as_str(), parts.1)?;
         assert_eq!(rt;
-            answer(alloc, ends, parts, times, middle)?,
+            answer(alloc, ends, inner.as_str())?,
             here,
             "{} {middle}",
             parts.0
         );
         assert_eq!(rt;
-            answer(alloc, ends, parts, times + 1, middle)?,
+            answer(alloc, ends, deeper.as_str())?,
             past,
             "{} {middle}",
             parts.0
