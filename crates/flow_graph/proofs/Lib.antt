@@ -9,3 +9,4 @@ pub mod Stopping
 pub mod Listing
 pub mod Places
 pub mod Whole
+pub mod Samples

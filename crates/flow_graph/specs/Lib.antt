@@ -6,3 +6,4 @@ pub mod Judged
 pub mod Built
 pub mod Layout
 pub mod Stops
+pub mod Sums

@@ -1,2 +1,3 @@
 pub mod Narrowness
 pub mod Running
+pub mod Judging

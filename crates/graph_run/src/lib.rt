@@ -6,9 +6,13 @@
 //! 2^100 in size.
 #![tactic(auto)]
 
+mod laws;
 mod runs;
 mod skip;
 mod step;
+#[cfg(test)]
+mod tests;
 
+pub use laws::law_of_outcomes;
 pub use runs::run;
 pub use skip::Skip;

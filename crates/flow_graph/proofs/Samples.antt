@@ -1,0 +1,99 @@
+-- The definitions at small graphs, worked out by hand.
+use Rattle.std.proofs.Common.{◌≡◌, false, [], ◌∷◌, Some, None, pos, negsuc, refl}
+use Rattle.c_ast.specs.declared.expr.BinOp.TheVariants.{Add, Less}
+use Rattle.c_ast.specs.declared.place.Place.TheVariants as place
+use Rattle.c_ast.specs.declared.interpreter.Outcome.TheVariants.{Wide, CutOff}
+use Rattle.c_ast.specs.Tree as tree
+use Rattle.c_ast.specs.Tree.{Num, Var, Bin}
+use Rattle.flow_graph.specs.declared.stop.Stop.{Stop}
+use Rattle.flow_graph.specs.Operation.{Set, Branch, Mark, Return}
+use Rattle.flow_graph.specs.FlowGraph.{FlowGraph, node_after, variables_at, places_of}
+use Rattle.flow_graph.specs.Run.{Goes, Passes, Ends, turn, values_of}
+use Rattle.flow_graph.specs.Judged.{at_most}
+use Rattle.flow_graph.specs.Layout.{layout, lay}
+use Rattle.flow_graph.specs.Stops.{with_stop}
+use Rattle.flow_graph.specs.Sums.{sums}
+
+-- the mark's node stands before the test's, and the body leads back to the mark
+sums_laid : lay sums.body (Some (Return (Num (pos 0))) ∷ []) 0 0 0
+    ≡ layout (
+    Some (Return (Num (pos 0)))
+    ∷ Some (Return (Var 2))
+    ∷ Some (Mark 42 5)
+    ∷ Some (Set 1 (Bin Add (Var 1) (Num (pos 1))) 2)
+    ∷ Some (Set 2 (Bin Add (Var 2) (Var 1)) 3)
+    ∷ Some (Branch (Bin Less (Var 1) (Var 0)) 4 1)
+    ∷ Some (Set 2 (Num (pos 0)) 2)
+    ∷ Some (Set 1 (Num (pos 0)) 6)
+    ∷ []
+    ) 7
+unfolding sums
+sums_laid = refl
+
+-- do { __mark(7); if (x) continue; break; } while (x);
+do_laid : lay (tree.Loop None (Var 0) (tree.Mark 7 (tree.If (Var 0) (tree.Continue tree.Nil) tree.Nil (tree.Break tree.Nil))) tree.Nil false tree.Nil) (Some (Return (Num (pos 0))) ∷ []) 0 0 0
+    ≡ layout (Some (Return (Num (pos 0))) ∷ Some (Branch (Var 0) 3 0) ∷ Some (Branch (Var 0) 1 0) ∷ Some (Mark 7 2) ∷ []) 3
+do_laid = refl
+
+five : Stop
+five = record { mark = 5; next = 3; scope = 0 ∷ [] }
+
+nine : Stop
+nine = record { mark = 9; next = 8; scope = 0 ∷ 2 ∷ [] }
+
+marks_rise : with_stop five (nine ∷ []) ≡ five ∷ nine ∷ []
+unfolding five nine
+marks_rise = refl
+
+marks_rise_again : with_stop nine (five ∷ []) ≡ five ∷ nine ∷ []
+unfolding five nine
+marks_rise_again = refl
+
+-- a graph of two parameters, with these marks
+two : FlowGraph
+two = record { params = 2; vars = 3; ops = []; entry = 4; stops = five ∷ nine ∷ [] }
+
+two_places : places_of two ≡ place.Entry ∷ place.Mark 5 ∷ place.Mark 9 ∷ place.Exit ∷ []
+unfolding two five nine
+two_places = refl
+
+goes_on_at_the_entry : node_after two place.Entry ≡ 4
+unfolding two
+goes_on_at_the_entry = refl
+
+goes_on_behind_a_mark : node_after two (place.Mark 9) ≡ 8
+unfolding two five nine
+goes_on_behind_a_mark = refl
+
+parameters_are_in_scope : variables_at two place.Entry ≡ 0 ∷ 1 ∷ []
+unfolding two
+parameters_are_in_scope = refl
+
+scope_at_a_mark : variables_at two (place.Mark 9) ≡ 0 ∷ 2 ∷ []
+unfolding two five nine
+scope_at_a_mark = refl
+
+values_at_a_mark : values_of (0 ∷ 2 ∷ []) (pos 7 ∷ pos 8 ∷ negsuc 0 ∷ []) ≡ pos 7 ∷ negsuc 0 ∷ []
+values_at_a_mark = refl
+
+sets : turn (Set 1 (Bin Add (Var 0) (Num (pos 1))) 6) (pos 7 ∷ pos 8 ∷ []) ≡ Goes 6 (pos 7 ∷ pos 8 ∷ [])
+sets = refl
+
+chooses_the_first : turn (Branch (Var 0) 3 4) (negsuc 0 ∷ []) ≡ Goes 3 (negsuc 0 ∷ [])
+chooses_the_first = refl
+
+chooses_the_second : turn (Branch (Var 0) 3 4) (pos 0 ∷ []) ≡ Goes 4 (pos 0 ∷ [])
+chooses_the_second = refl
+
+passes : turn (Mark 5 3) (pos 7 ∷ []) ≡ Passes 5 3 (pos 7 ∷ [])
+passes = refl
+
+ends : turn (Return (Var 0)) (pos 7 ∷ []) ≡ Ends (pos 7)
+ends = refl
+
+-- the second mark is one too many, whatever comes behind it; the first is not
+cut_off_at_the_second : at_most 1 1 5 (pos 7 ∷ []) (Some Wide) ≡ Some CutOff
+cut_off_at_the_second = refl
+
+not_at_the_first : at_most 1 0 5 (pos 7 ∷ []) (Some Wide) ≡ Some Wide
+not_at_the_first = refl

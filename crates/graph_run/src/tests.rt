@@ -1,0 +1,170 @@
+//! A run that was worked out by hand, from the meaning of C's statements.
+ghost use Rattle.std.specs.Prelude.{◌≡◌, [], ◌∷◌, length, pos, IfOk, Some, true};
+ghost use Rattle.c_ast.specs.declared.expr.BinOp.TheVariants.{Add};
+ghost use Rattle.c_ast.specs.Tree as tree;
+ghost use Rattle.c_ast.specs.Tree.{Statements};
+ghost use Rattle.c_ast.specs.View.{expression_of, put_in_front, statements_of};
+ghost use Rattle.c_ast.specs.Function.{program_of};
+ghost use Rattle.flow_graph.specs.Sums.{sums};
+
+use crate::{Skip, run};
+use c_ast::{BinOp, Expr, Func, Name, Place, Stmt, Trace, Var};
+use flow_graph::build;
+use sqlite_items::{Boxed, Items};
+use std::alloc::{AllocError, Global};
+use std::test::Fail;
+
+/// 2^99, the half of the least wide value.
+const HALF: i128 = 633_825_300_114_114_700_748_351_602_688;
+
+fn num(value: i64) -> Expr
+    ensures { expression_of result ≡ tree.Num value }
+{
+    Expr::Num(value)
+}
+
+fn var(x: u32) -> Expr
+    ensures { expression_of result ≡ tree.Var x }
+{
+    Expr::Var(x)
+}
+
+fn bin(alloc: Global, left: Expr, op: BinOp, right: Expr) -> Result<Expr, AllocError>
+    ensures { IfOk result (λ made. expression_of made ≡ tree.Bin op (expression_of left) (expression_of right)) }
+{
+    let left = Boxed::new(alloc, left)?;
+    let right = Boxed::new(alloc, right)?;
+    Ok(Expr::Bin(op, left, right))
+}
+
+fn name(alloc: Global, text: &str) -> Result<Name, AllocError> {
+    Ok(Name::new(String::from_str(alloc, text)?))
+}
+
+/// The variables, all declared in the first line.
+fn variables(alloc: Global) -> Result<Vec<Var>, AllocError>
+    ensures { IfOk result (λ vars. length vars.items ≡ 3) }
+{
+    let mut vars = Vec::new(alloc);
+    vars.push(Var {
+        name: name(alloc, "n")?,
+        line: 1,
+    })?;
+    vars.push(Var {
+        name: name(alloc, "i")?,
+        line: 1,
+    })?;
+    vars.push(Var {
+        name: name(alloc, "s")?,
+        line: 1,
+    })?;
+    Ok(vars)
+}
+
+/// s = s + i; i = i + 1;
+fn turn(alloc: Global) -> Result<Items<Stmt>, AllocError>
+    ensures { IfOk result (λ stmts. statements_of stmts
+        ≡ tree.Set 2 (tree.Bin Add (tree.Var 2) (tree.Var 1)) (tree.Set 1 (tree.Bin Add (tree.Var 1) (tree.Num (pos 1))) tree.Nil)) }
+{
+    let mut stmts = Items::new(alloc);
+    stmts.push(Stmt::Set(2, bin(alloc, var(2), BinOp::Add, var(1))?))?;
+    stmts.push(Stmt::Set(1, bin(alloc, var(1), BinOp::Add, num(1))?))?;
+    Ok(stmts)
+}
+
+/// The statements of the sum.
+fn body(alloc: Global) -> Result<Vec<Stmt>, AllocError>
+    ensures { IfOk result (λ stmts. statements_of stmts.items ≡ sums.body) }
+{
+    let cond = bin(alloc, var(1), BinOp::Less, var(0))?;
+    let turn = turn(alloc)?;
+    let mut stmts = Vec::new(alloc);
+    stmts.push(Stmt::Set(1, num(0)))?;
+    stmts.push(Stmt::Set(2, num(0)))?;
+    stmts.push(Stmt::Loop {
+        mark: Some(42),
+        cond,
+        body: turn,
+        step: Items::new(alloc),
+        test_first: true,
+    })?;
+    stmts.push(Stmt::Return(var(2)))?;
+    Ok(stmts)
+}
+
+/// int f(int n) { int i = 0; int s = 0; while (__mark(42) & (i < n)) { s = s + i; i = i + 1; } return s; }
+fn sum(alloc: Global) -> Result<Func, AllocError>
+    ensures { IfOk result (λ func. program_of func ≡ sums) }
+{
+    let vars = variables(alloc)?;
+    let body = body(alloc)?;
+    Ok(Func::new(name(alloc, "f")?, 1, vars, body))
+}
+
+/// int f(int a) { return a + a; }
+fn double(alloc: Global) -> Result<Func, AllocError>
+    ensures { IfOk result (λ func. (program_of func).params ≡ 1) }
+{
+    let mut vars = Vec::new(alloc);
+    vars.push(Var {
+        name: name(alloc, "a")?,
+        line: 1,
+    })?;
+    let mut body = Vec::new(alloc);
+    body.push(Stmt::Return(bin(alloc, var(0), BinOp::Add, var(0))?))?;
+    Ok(Func::new(name(alloc, "f")?, 1, vars, body))
+}
+
+/// The events of a trace and its result, or why there is none.
+fn shown(alloc: Global, answer: &Result<Trace, Skip>) -> Result<String, AllocError> {
+    let mut out = String::new(alloc);
+    match answer {
+        Ok(trace) => {
+            for event in trace.events.as_slice() {
+                write!(out, "{}:", event.mark)?;
+                for value in event.values.as_slice() {
+                    write!(out, " {value}")?;
+                }
+                out.push_str("; ")?;
+            }
+            write!(out, "{}", trace.result)?;
+        }
+        Err(skip) => write!(out, "{skip:?}")?,
+    }
+    Ok(out)
+}
+
+#[test]
+fn places_list_the_variables_in_scope(rt: HostRuntime) -> Result<(), Fail> {
+    let alloc = rt.alloc();
+    let graph = build(alloc, &sum(alloc)?)?;
+    let rows = [
+        (Place::Entry, &[0][..]),
+        (Place::Mark(42), &[0, 1, 2][..]),
+        (Place::Exit, &[][..]),
+    ];
+    let places = graph.places(alloc)?;
+    assert_eq!(rt; places.len(), rows.len());
+    for (place, (want, variables)) in places.iter().zip(rows) {
+        assert_eq!(rt; *place, want);
+        let got = graph.vars_at(alloc, *place)?;
+        assert_eq!(rt; got.as_slice(), variables, "{place:?}");
+    }
+    Ok(())
+}
+
+#[test]
+fn runs_pass_marks_or_are_skipped(rt: HostRuntime) -> Result<(), Fail> {
+    let alloc = rt.alloc();
+    let graph = build(alloc, &sum(alloc)?)?;
+    let answer = shown(alloc, &run(alloc, &graph, &[2], 3))?;
+    assert_eq!(rt; answer.as_str(), "42: 2 0 0; 42: 2 1 0; 42: 2 2 1; 1");
+    let answer = shown(alloc, &run(alloc, &graph, &[2], 2))?;
+    assert_eq!(rt; answer.as_str(), "NotEnded");
+    let graph = build(alloc, &double(alloc)?)?;
+    let answer = shown(alloc, &run(alloc, &graph, &[HALF - 1], 0))?;
+    assert_eq!(rt; answer.as_str(), "1267650600228229401496703205374");
+    let answer = shown(alloc, &run(alloc, &graph, &[HALF], 0))?;
+    assert_eq!(rt; answer.as_str(), "Wide");
+    Ok(())
+}
