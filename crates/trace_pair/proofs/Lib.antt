@@ -1,0 +1,6 @@
+pub mod Grid
+pub mod Words
+pub mod Inputting
+pub mod Judging
+pub mod Answering
+pub mod Samples

@@ -1,5 +1,5 @@
 //! The inputs of samples.
-ghost use Rattle.std.specs.Prelude.{◌≡◌, ◌<◌, ◌≤◌, map, pos, slice_index_or, All, IfOk};
+ghost use Rattle.std.specs.Prelude.{◌≡◌, ◌<◌, ◌≤◌, ◌^◌, map, pos, slice_index_or, All, IfOk};
 ghost use Rattle.std.specs.List.{range_with_len};
 ghost use Rattle.trace_pair.specs.Inputs.{grid, grid_value, word_value, words, generator_of, input_of, IsNear};
 
@@ -7,6 +7,15 @@ use c_ast::Settings;
 use rand_core::utils::NextWord;
 use rand_pcg::Lcg64Xsh32;
 use std::alloc::{AllocError, Global};
+
+#[tactic(auto, using(crate::proofs::Grid::power_is_small, crate::proofs::Grid::power_is_positive))]
+fn power_of_five(exponent: u32) -> u32
+    requires { exponent ≤ 3 }
+    ensures power { result ≡ 5 ^ exponent }
+    ensures positive { 0 < result }
+{
+    5_u32.pow(exponent)
+}
 
 /// The grid's value with the number.
 fn grid_entry(number: u32) -> i128
@@ -27,7 +36,7 @@ fn grid_value(index: u32, parameter: u32) -> i128
     ensures { result ≡ grid_value index parameter }
 {
     if parameter < 3 {
-        grid_entry(index / 5_u32.pow(parameter) % 5)
+        grid_entry(index / power_of_five(parameter) % 5)
     } else {
         0
     }
@@ -79,7 +88,7 @@ pub fn input(
     ensures values { IfOk result (λ values. values.items ≡ input_of settings.now index arity) }
     ensures near { IfOk result (λ values. All IsNear values.items) }
 {
-    if index < 5_u32.pow(arity.min(3)) {
+    if index < power_of_five(arity.min(3)) {
         grid_input(alloc, index, arity)
     } else {
         later_input(alloc, settings.seed(), index, arity)
