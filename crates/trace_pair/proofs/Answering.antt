@@ -1,5 +1,6 @@
 -- A sample has one answer, and the traces of a pair are those of its functions.
-use Rattle.std.proofs.Common.{◌≡◌, ℕ, List, ℤ, refl, sym, ap, ◌∙◌, subst}
+use Rattle.std.proofs.Common.{◌≡◌, ℕ, length, List, ℤ, refl, sym, ap, ◌∙◌, subst}
+use Rattle.std.proofs.lemmas.List.Elements.{All-same}
 use Rattle.c_ast.specs.declared.interpreter.Outcome.TheVariants as outcome
 use Rattle.c_ast.specs.declared.place.Side.{Side}
 use Rattle.c_ast.specs.declared.place.Side.TheVariants.{A, B}
@@ -11,10 +12,14 @@ use Rattle.c_ast.specs.Comparison.{Comparison}
 use Rattle.c_ast.proofs.Runs.{trace_returns}
 use Rattle.graph_run.specs.declared.skip.Skip.{Skip}
 use Rattle.graph_run.specs.declared.skip.Skip.TheVariants as skip
+use Rattle.graph_run.specs.Answers.{AreNarrow}
 use Rattle.graph_run.proofs.Judging.{judged_is_trace}
+use Rattle.trace_pair.specs.Inputs.{IsNear}
 use Rattle.trace_pair.specs.Pairs.{input_at, ReturnsWithin, MeetsFirst, IsPair, IsSkippedOn}
 use Rattle.trace_pair.specs.Laws.{IsOnePair, IsOneSkip, PairIsNoSkip, IsTraceWithin, PairHasTraces}
+use Rattle.trace_pair.proofs.Inputting.{length-input_of, near_input_of, near_are_narrow}
 use Rattle.trace_pair.proofs.Judging.{judged_once}
+use Rattle.trace_pair.proofs.Narrowing.{judged_is_narrow}
 
 -- ---- one run
 
@@ -36,10 +41,10 @@ module _ (marks : ℕ) (f : Program) (inputs : List ℤ) where
   returns_or_not t skip.Wide h k = let same : outcome.Returned t ≡ outcome.Wide = judged_once f inputs marks _ _ h k in cc
   returns_or_not t skip.Memory h k = k
 
-  trace_within : (t : Trace) → ReturnsWithin marks f inputs t → IsTraceWithin marks f inputs t
-  trace_within t h =
+  trace_within : (t : Trace) → AreNarrow inputs → ReturnsWithin marks f inputs t → IsTraceWithin marks f inputs t
+  trace_within t narrow h =
       let is = judged_is_trace f inputs marks t h in
-      record { is = is.0; few = is.1; returns = (trace_returns f inputs t.result).1 (t, is.0, refl) }
+      record { is = is.0; few = is.1; narrow = judged_is_narrow f inputs marks t narrow h; returns = (trace_returns f inputs t.result).1 (t, is.0, refl) }
 
 -- ---- both runs
 
@@ -86,4 +91,12 @@ pair_is_no_skip subject index pair skipped is h =
     on B runs h = returns_or_not _ _ _ pair.second skipped.why runs.second h.1
 
 pub pair_has_traces : PairHasTraces
-pair_has_traces subject index pair is = record { first = trace_within _ _ _ pair.first is.first; second = trace_within _ _ _ pair.second is.second }
+pair_has_traces subject index pair is =
+    let near = All-same IsNear pair.input _ is.input (near_input_of subject.settings index subject.first.params) in
+    let narrow = near_are_narrow pair.input near in
+    record {
+      arity = ap length is.input ∙ length-input_of subject.settings index subject.first.params;
+      near = near;
+      first = trace_within _ _ _ pair.first narrow is.first;
+      second = trace_within _ _ _ pair.second narrow is.second;
+    }

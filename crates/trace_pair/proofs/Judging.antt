@@ -11,7 +11,7 @@ use Rattle.c_ast.proofs.Runs.{Agree}
 use Rattle.flow_graph.specs.Judged.{at_most, IsJudged}
 
 module _ (limit : ℕ) where
-  abbrev Judged : ℕ → ℕ → Work → List ℤ → Option Outcome
+  abbrev pub Judged : ℕ → ℕ → Work → List ℤ → Option Outcome
   Judged = seen evaluates_narrow (Some outcome.Wide) (at_most limit) returned
 
   -- behind a first event two outcomes agree where they do without it
@@ -38,7 +38,7 @@ module _ (limit : ℕ) where
 
       at : (narrow : Bool) → ((m : ℕ) (work : Work) (env : List ℤ) → Agree Outcome (Judged i m work env) (Judged j m work env))
           → Agree Outcome (cond narrow (seen_next evaluates_narrow (Some outcome.Wide) (at_most limit) returned (Judged i) marks (step work env)) (Some outcome.Wide))
-            (cond narrow (seen_next evaluates_narrow (Some outcome.Wide) (at_most limit) returned (Judged j) marks (step work env)) (Some outcome.Wide))
+          (cond narrow (seen_next evaluates_narrow (Some outcome.Wide) (at_most limit) returned (Judged j) marks (step work env)) (Some outcome.Wide))
       at true later = on (step work env) later
       at false later = record { by = λ o p h k. cc }
 

@@ -11,7 +11,6 @@ use Rattle.c_ast.specs.Comparison.{Comparison}
 use Rattle.flow_graph.specs.Judged.{IsJudged}
 use Rattle.graph_run.specs.declared.skip.Skip.{Skip}
 use Rattle.graph_run.specs.declared.skip.Skip.TheVariants as skip
-use Rattle.graph_run.specs.Answers.{IsNarrow}
 use Rattle.trace_pair.specs.declared.skipped.Skipped.{Skipped}
 use Rattle.trace_pair.specs.declared.skipped.PairRefused.{PairRefused}
 use Rattle.trace_pair.specs.declared.skipped.PairRefused.TheVariants as refused
@@ -60,6 +59,6 @@ AnswersPair subject index (Err refused.Memory) = Unit {0}
 
 -- What is answered of one side's run.
 abbrev pub AnswersRun : Side → ℕ → Program → List ℤ → Result Trace PairRefused → Type 0
-AnswersRun side marks f inputs (Ok trace) = ReturnsWithin marks f inputs trace × IsNarrow trace
+AnswersRun side marks f inputs (Ok trace) = ReturnsWithin marks f inputs trace
 AnswersRun side marks f inputs (Err (refused.Skipped skipped)) = (skipped.side ≡ side) × MeetsFirst marks f inputs skipped.why
 AnswersRun side marks f inputs (Err refused.Memory) = Unit {0}

@@ -60,12 +60,7 @@ fn word_value(word: u32) -> i128
 }
 
 /// The values of all parameters at a later index.
-fn later_input(
-    alloc: Global,
-    seed: u64,
-    index: u32,
-    arity: u32,
-) -> Result<Vec<i128>, AllocError>
+fn later_input(alloc: Global, seed: u64, index: u32, arity: u32) -> Result<Vec<i128>, AllocError>
     ensures { IfOk result (λ values. values.items ≡ map word_value (words arity (generator_of seed index))) }
 {
     let mut generator = Lcg64Xsh32::new(seed, index as u64);

@@ -1,7 +1,7 @@
 //! Pairs of runs.
-ghost use Rattle.std.specs.Prelude.{◌≡◌, ◌<◌, length, IfOk, IfErr};
+ghost use Rattle.std.specs.Prelude.{◌≡◌, ◌<◌, length, IfErr};
 ghost use Rattle.c_ast.specs.Function.{program_of};
-ghost use Rattle.graph_run.specs.Answers.{AreNarrow, IsNarrow};
+ghost use Rattle.graph_run.specs.Answers.{AreNarrow};
 ghost use Rattle.trace_pair.specs.Pairs.{AnswersRun, AnswersPair, KeepsCause};
 
 use crate::{PairRefused, Skipped, input};
@@ -36,7 +36,6 @@ fn trace_of(
 pub fn pair(alloc: Global, subject: &Subject, index: u32) -> Result<Pair, PairRefused>
     requires { index < subject.now.settings.samples }
     ensures answer { AnswersPair subject.now index result }
-    ensures narrow { IfOk result (λ pair. IsNarrow pair.first × IsNarrow pair.second) }
     ensures cause { IfErr result KeepsCause }
 {
     let settings = subject.settings();
