@@ -17,7 +17,7 @@ use Rattle.graph_run.proofs.Judging.{judged_is_trace}
 use Rattle.trace_pair.specs.Inputs.{IsNear}
 use Rattle.trace_pair.specs.Pairs.{input_at, ReturnsWithin, MeetsFirst, IsPair, IsSkippedOn}
 use Rattle.trace_pair.specs.Laws.{IsOnePair, IsOneSkip, PairIsNoSkip, IsTraceWithin, PairHasTraces}
-use Rattle.trace_pair.proofs.Inputting.{length-input_of, near_input_of, near_are_narrow}
+use Rattle.trace_pair.proofs.Inputting.{length_of_input, near_input_of, near_are_narrow}
 use Rattle.trace_pair.proofs.Judging.{judged_once}
 use Rattle.trace_pair.proofs.Narrowing.{judged_is_narrow}
 
@@ -95,7 +95,7 @@ pair_has_traces subject index pair is =
     let near = All-same IsNear pair.input _ is.input (near_input_of subject.settings index subject.first.params) in
     let narrow = near_are_narrow pair.input near in
     record {
-      arity = ap length is.input ∙ length-input_of subject.settings index subject.first.params;
+      arity = ap length is.input ∙ length_of_input subject.settings index subject.first.params;
       near = near;
       first = trace_within _ _ _ pair.first narrow is.first;
       second = trace_within _ _ _ pair.second narrow is.second;

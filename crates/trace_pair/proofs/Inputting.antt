@@ -14,8 +14,8 @@ use Rattle.trace_pair.specs.Inputs.{grid_size, grid_value, word_value, words, ge
 use Rattle.trace_pair.proofs.Grid.{grid_is_near}
 use Rattle.trace_pair.proofs.Words.{length-words, words_are_near}
 
-pub length-input_of : (settings : Bounds) (index arity : ℕ) → length (input_of settings index arity) ≡ arity
-length-input_of settings index arity = on (nat_lt index (grid_size arity))
+pub length_of_input : (settings : Bounds) (index arity : ℕ) → length (input_of settings index arity) ≡ arity
+length_of_input settings index arity = on (nat_lt index (grid_size arity))
   where
     on : (early : Bool) → length (cond early (map (grid_value index) (range_with_len 0 arity)) (map word_value (words arity (generator_of settings.seed index)))) ≡ arity
     on true = length-map-range_with_len (grid_value index) 0 arity

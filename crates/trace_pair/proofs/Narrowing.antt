@@ -1,5 +1,5 @@
 -- The values of a run that is judged to return are below 2^100 in size.
-use Rattle.std.proofs.Common.{◌≡◌, ℕ, zero, suc, Bool, true, false, cond, nat_lt, List, [], ◌∷◌, Option, Some, None, ℤ, refl, sym, subst}
+use Rattle.std.proofs.Common.{◌≡◌, ℕ, zero, suc, Bool, true, false, cond, nat_lt, List, [], ◌∷◌, Option, Some, None, ℤ, refl, subst}
 use Rattle.std.proofs.lemmas.List.Elements.{All-nil, All-cons, All-head, All-tail}
 use Rattle.c_ast.specs.declared.trace.Event.{Event}
 use Rattle.c_ast.specs.declared.trace.Trace.{Trace}

@@ -33,6 +33,7 @@ fn trace_of(
 
 /// The runs of both functions on the sample's input, where both return after at most as many marks as the settings say
 /// and with narrow values. `index` is below the settings' number of samples. Side A is judged first.
+#[tactic(auto, using(crate::proofs::Inputting::length_of_input))]
 pub fn pair(alloc: Global, subject: &Subject, index: u32) -> Result<Pair, PairRefused>
     requires { index < subject.now.settings.samples }
     ensures answer { AnswersPair subject.now index result }
@@ -41,8 +42,9 @@ pub fn pair(alloc: Global, subject: &Subject, index: u32) -> Result<Pair, PairRe
     let settings = subject.settings();
     let (first, second) = (subject.first(), subject.second());
     let values = input(alloc, &settings, index, first.params())?;
-    let first = trace_of(alloc, Side::A, first, values.as_slice(), settings.marks())?;
-    let second = trace_of(alloc, Side::B, second, values.as_slice(), settings.marks())?;
+    let marks = settings.marks();
+    let first = trace_of(alloc, Side::A, first, values.as_slice(), marks)?;
+    let second = trace_of(alloc, Side::B, second, values.as_slice(), marks)?;
     Ok(Pair {
         input: Items::from_vec(values),
         first,
