@@ -1,73 +1,83 @@
--- Which tokens spell an expression (ISO C11, 6.5.1, 6.5.5 and 6.5.6).
-use Rattle.std.specs.Prelude.{◌≡◌, ℕ, suc, ◌+◌, ◌<◌, max, pos, List, [], ◌∷◌, ◌++◌, Option, Some, None, position, bytes_eq}
-use Rattle.c_ast.specs.Tree as tree
-use Rattle.c_ast.specs.Tree.{Expression}
+-- Which tokens spell an expression (ISO C11, 6.5.1 to 6.5.15).
+use Rattle.std.specs.Prelude.{◌≡◌, ℕ, suc, pos, ◌+◌, ◌<◌, ◌^◌, max, List, [], ◌∷◌, ◌++◌, Option, Some, None}
+use Rattle.c_ast.specs.RawTree.{RawExpression, Num, Named, Un, Bin, Cond}
+use Rattle.c_ast.specs.declared.expr.UnOp.{UnOp}
+use Rattle.c_ast.specs.declared.expr.UnOp.TheVariants as unary
 use Rattle.c_ast.specs.declared.expr.BinOp.{BinOp}
-use Rattle.c_ast.specs.declared.expr.BinOp.TheVariants.{Add, Sub, Mul}
-use Rattle.c_ast.specs.declared.expr.Expr.{Expr}
-use Rattle.c_ast.specs.declared.expr.Expr.TheVariants as e
-use Rattle.c_ast.specs.declared.func.Var.{Var}
-use Rattle.c_ast.specs.View.{expression_of}
-use Rattle.c_reader.specs.declared.token.Token.{Token}
-use Rattle.c_reader.specs.declared.token.Token.TheVariants as t
+use Rattle.c_ast.specs.declared.expr.BinOp.TheVariants as binary
+use Rattle.c_tokens.specs.declared.kind.Kind.{Kind}
+use Rattle.c_tokens.specs.declared.kind.Kind.TheVariants as k
+use Rattle.c_tokens.specs.declared.token.Token.{Token}
 
--- the level and the operation of an operator: sums have level 0, terms 1, and their operands 2
-abbrev pub operation_of : Token → Option (ℕ × BinOp)
-operation_of t.Plus = Some (0, Add)
-operation_of t.Minus = Some (0, Sub)
-operation_of t.Star = Some (1, Mul)
-operation_of _ = None
+-- the operation of a sign before its operand (6.5.3.3)
+abbrev pub unary_of : Kind → Option UnOp
+unary_of k.Plus = Some unary.Plus
+unary_of k.Minus = Some unary.Minus
+unary_of k.Bang = Some unary.Not
+unary_of _ = None
 
--- the number of the first variable with this name
-abbrev pub number_of : List Var → List ℕ → Option ℕ
-number_of vars word = position (λ var. bytes_eq word var.name) vars
+-- the level and the operation of a binary operator, loosest first (6.5.14 back to 6.5.5)
+abbrev pub operator_of : Kind → Option (ℕ × BinOp)
+operator_of k.BarBar = Some (1, binary.Or)
+operator_of k.AmpAmp = Some (2, binary.And)
+operator_of k.Equal = Some (3, binary.Equal)
+operator_of k.NotEqual = Some (3, binary.NotEqual)
+operator_of k.Less = Some (4, binary.Less)
+operator_of k.LessEq = Some (4, binary.LessEq)
+operator_of k.Greater = Some (4, binary.Greater)
+operator_of k.GreaterEq = Some (4, binary.GreaterEq)
+operator_of k.Plus = Some (5, binary.Add)
+operator_of k.Minus = Some (5, binary.Sub)
+operator_of k.Star = Some (6, binary.Mul)
+operator_of _ = None
 
--- The tokens spell the expression at a level.
-pub data Spells (vars : List Var) : ℕ → Expr → List Token → Type 0 where
-  -- A name stands for the first variable that has it.
-  name : (number : ℕ) (word : List ℕ) (line : ℕ) → number_of vars word ≡ Some number
-      → Spells vars 2 (e.Var number) (t.Word word line ∷ [])
-  -- A constant stands for its value.
-  constant : (value : ℕ) → Spells vars 2 (e.Num (pos value)) (t.Constant value ∷ [])
+-- The tokens spell the expression at a level: 0 is that of `? :`, then come the levels of the binary operators, 7 is that
+-- of signs before an operand, and 8 that of names, constants and brackets.
+pub data SpellsAt : ℕ → RawExpression → List Token → Type 0 where
+  -- a name, with its line (6.5.1)
+  named : (name : List ℕ) (token : Token) → token.kind ≡ k.Word name → SpellsAt 8 (Named name token.line) (token ∷ [])
+  -- a constant below 2^63
+  constant : (value : ℕ) (token : Token) → token.kind ≡ k.Constant value → value < 2 ^ 63
+      → SpellsAt 8 (Num (pos value)) (token ∷ [])
+  -- Brackets leave nothing in the tree.
+  bracketed : (opening closing : Token) (e : RawExpression) (inside : List Token) → opening.kind ≡ k.OpenRound
+      → closing.kind ≡ k.CloseRound → SpellsAt 0 e inside → SpellsAt 8 e (opening ∷ (inside ++ closing ∷ []))
+  -- a sign before its operand (6.5.3.3)
+  signed : (op : UnOp) (sign : Token) (e : RawExpression) (operand : List Token) → unary_of sign.kind ≡ Some op
+      → SpellsAt 7 e operand → SpellsAt 7 (Un op e) (sign ∷ operand)
+  -- The left operand is of the operator's level and the right one of the next, so equal levels group to the left. The
+  -- line is the operator's.
+  joined : (level : ℕ) (op : BinOp) (sign : Token) (e f : RawExpression) (left right : List Token)
+      → operator_of sign.kind ≡ Some (level, op) → SpellsAt level e left → SpellsAt (suc level) f right
+      → SpellsAt level (Bin op sign.line e f) (left ++ sign ∷ right)
+  -- a choice (6.5.15), whose two values are whole expressions
+  chosen : (question colon : Token) (cond e f : RawExpression) (before between behind : List Token)
+      → question.kind ≡ k.Question → colon.kind ≡ k.Colon → SpellsAt 1 cond before → SpellsAt 0 e between
+      → SpellsAt 0 f behind → SpellsAt 0 (Cond cond e f) (before ++ question ∷ (between ++ colon ∷ behind))
   -- An expression of the next level may stand alone.
-  alone : (level : ℕ) (a : Expr) (us : List Token) → level < 2 → Spells vars (suc level) a us
-      → Spells vars level a us
-  -- The left operand of an operation is of its level and the right one of the next, so equal levels group to the left.
-  binary : (level : ℕ) (op : BinOp) (sign : Token) (a b : Expr) (us vs : List Token)
-      → operation_of sign ≡ Some (level, op) → Spells vars level a us → Spells vars (suc level) b vs
-      → Spells vars level (e.Bin op a b) (us ++ sign ∷ vs)
+  alone : (level : ℕ) (e : RawExpression) (tokens : List Token) → level < 8 → SpellsAt (suc level) e tokens
+      → SpellsAt level e tokens
 
--- the depth of a tree: a name or a constant has 1, and an operation 1 more than its deepest part
-abbrev pub tree_depth : Expression → ℕ
-tree_depth (tree.Num z) = 1
-tree_depth (tree.Var x) = 1
-tree_depth (tree.Un op a) = tree_depth a + 1
-tree_depth (tree.Bin op a b) = max (tree_depth a) (tree_depth b) + 1
-tree_depth (tree.Cond a b c) = max (tree_depth a) (max (tree_depth b) (tree_depth c)) + 1
+-- The tokens spell the expression.
+abbrev pub SpellsExpression : RawExpression → List Token → Type 0
+SpellsExpression e tokens = SpellsAt 0 e tokens
 
--- the depth of an expression of the program
-abbrev pub depth_of : Expr → ℕ
-depth_of a = tree_depth (expression_of a)
+-- the depth of an expression: a name or a constant has 1, and any other 1 more than its deepest part
+abbrev pub expression_depth : RawExpression → ℕ
+expression_depth (Num z) = 1
+expression_depth (Named name line) = 1
+expression_depth (Un op e) = expression_depth e + 1
+expression_depth (Bin op line e f) = max (expression_depth e) (expression_depth f) + 1
+expression_depth (Cond cond e f) = max (expression_depth cond) (max (expression_depth e) (expression_depth f)) + 1
 
--- No operator of the level or of a tighter one goes on here.
-abbrev pub Stops : ℕ → List Token → Type 0
-Stops level [] = Unit {0}
-Stops level (sign ∷ rest) =
-    (other : ℕ) (op : BinOp) → operation_of sign ≡ Some (other, op) → other < level
+-- No expression goes on with the first token: it is no binary operator and no `?`, or there is none.
+abbrev pub EndsExpression : List Token → Type 0
+EndsExpression [] = Unit {0}
+EndsExpression (token ∷ others) = (operator_of token.kind ≡ None) × (token.kind ≡ k.Question → ⊥)
 
--- The longest expression of a level at the front is this one, and these tokens follow it.
-pub record Begins (vars : List Var) (level : ℕ) (tokens : List Token) (a : Expr) (rest : List Token) : Type 0 where
+-- The tokens begin with those of the expression, no expression goes on behind them, and these follow.
+pub record BeginsExpression (tokens : List Token) (e : RawExpression) (behind : List Token) : Type 0 where
   pub front : List Token
-  pub parts : tokens ≡ front ++ rest
-  pub spells : Spells vars level a front
-  pub stops : Stops level rest
-
--- The first token is an operator of the level, and these follow it.
-abbrev pub IsOperatorAt : ℕ → List Token → BinOp → List Token → Type 0
-IsOperatorAt level tokens op behind =
-    (sign : Token) × (tokens ≡ sign ∷ behind) × (operation_of sign ≡ Some (level, op))
-
--- The first token, if there is one, is no operator of the level.
-abbrev pub NoOperatorAt : ℕ → List Token → Type 0
-NoOperatorAt level [] = Unit {0}
-NoOperatorAt level (sign ∷ behind) = (op : BinOp) → operation_of sign ≡ Some (level, op) → ⊥
+  pub parts : tokens ≡ front ++ behind
+  pub spells : SpellsExpression e front
+  pub ends : EndsExpression behind

@@ -1,145 +1,272 @@
-//! Expressions by the levels of their operators, over tokens (ISO C11, 6.5.5 and 6.5.6).
-//!
-//!     sum: term, or sum with "+" or "-" and term
-//!     term: primary, or term "*" primary
-//!     primary: name or constant
-ghost use Rattle.std.specs.Prelude.{◌≡◌, ℕ, ◌+◌, ◌<◌, ◌≤◌, max, List, ◌∷◌, length, position, bytes_eq, Some, None, IfOk, IsErrOf, MatchOption};
-ghost use Rattle.c_ast.specs.declared.expr.BinOp.{BinOp};
-ghost use Rattle.c_ast.specs.declared.expr.Expr.{Expr};
-ghost use Rattle.c_reader.specs.declared.token.Token.{Token};
-ghost use Rattle.c_reader.specs.Expressions.{operation_of, number_of, depth_of, Begins, IsOperatorAt, NoOperatorAt};
+//! Expressions (ISO C11, 6.5.1 to 6.5.15), by recursive descent.
+ghost use Rattle.std.specs.Prelude.{◌≡◌, ℕ, suc, pos, ◌+◌, ◌-◌, ◌<◌, ◌≤◌, ◌^◌, max, List, length, Some, None, IfOk, IfErr, IfSome, option_map};
+ghost use Rattle.c_ast.specs.RawTree.{Num, Named, Un, Bin, Cond};
+ghost use Rattle.c_ast.specs.RawView.{raw_expression_of};
+ghost use Rattle.c_reader.specs.Expressions.{expression_depth};
+ghost use Rattle.c_reader.specs.Faults.{Refuses};
+ghost use Rattle.c_reader.specs.ReadExpressions.{behind, is_closing, is_question, is_colon, next_operator, operand_at, level_at, expression_at, IsDeeper};
 
-use crate::ReturnFault;
-use crate::token::Token;
-use c_ast::{BinOp, Expr, Var};
+use crate::ReadFault;
+use crate::operators::{LOOSEST, operator_of, unary_of};
+use c_ast::{BinOp, Name, RawExpr, UnOp};
+use c_tokens::{Kind, Token};
 use sqlite_items::Boxed;
-use std::alloc::Global;
+use std::alloc::{AllocError, Global};
 
-/// The level of sums, the loosest.
-pub const SUM: u32 = 0;
-
-/// The level of terms.
-const TERM: u32 = 1;
-
-/// The level of names and constants.
-const PRIMARY: u32 = 2;
-
-/// The greatest depth of an expression: the statement and the block add 2.
-const DEEPEST: u32 = 398;
-
-/// An expression, and its depth, at most 398.
+/// An expression, and its depth.
 #[derive(Drop)]
 pub struct Tree {
-    pub expr: Expr,
+    pub expr: RawExpr,
     pub depth: u32,
-    ghost measured: { depth ≡ depth_of expr },
-    ghost shallow: { depth ≤ 398 },
+    ghost measured: { depth ≡ expression_depth (raw_expression_of expr) },
 }
 
-// The level and the operation of an operator.
-fn operation_of(token: &Token) -> Option<(u32, BinOp)>
-    ensures { result ≡ operation_of token.now }
+/// A binary operator of a level or a tighter one at the front: its level, its operation, its line, and the tokens
+/// behind it.
+fn next_operator(level: u32, tokens: &[Token]) -> Option<(u32, BinOp, u32, &[Token])>
+    ensures next { option_map (λ x. (x.0, x.1, x.2, x.3.now)) result ≡ next_operator level tokens.now }
+    ensures shorter { IfSome result (λ x. length x.3.now < length tokens.now) }
+    ensures level { IfSome result (λ x. x.0 ≤ 6) }
 {
-    match token {
-        Token::Plus => Some((SUM, BinOp::Add)),
-        Token::Minus => Some((SUM, BinOp::Sub)),
-        Token::Star => Some((TERM, BinOp::Mul)),
+    let (token, behind) = tokens.split_first()?;
+    let (at, op) = operator_of(&token.kind)?;
+    if level <= at {
+        Some((at, op, token.line, behind))
+    } else {
+        None
+    }
+}
+
+// The tokens behind a `)`.
+fn behind_closing(tokens: &[Token]) -> Option<&[Token]>
+    ensures behind { option_map (λ x. x.now) result ≡ behind is_closing tokens.now }
+    ensures shorter { IfSome result (λ x. length x.now < length tokens.now) }
+{
+    match tokens {
+        [
+            Token {
+                kind: Kind::CloseRound,
+                ..
+            },
+            others @ ..,
+        ] => Some(others),
         _ => None,
     }
 }
 
-// The operator of a level at the front, and the tokens after it.
-fn operator_at(level: u32, tokens: &[Token]) -> Option<(BinOp, &[Token])>
-    ensures found { MatchOption result (NoOperatorAt level tokens.now)
-        (λ x. IsOperatorAt level tokens.now x.0 x.1.now) }
-    ensures shorter { MatchOption result (Unit {0}) (λ x. length x.1.now < length tokens.now) }
+// The tokens behind a `?`.
+fn behind_question(tokens: &[Token]) -> Option<&[Token]>
+    ensures behind { option_map (λ x. x.now) result ≡ behind is_question tokens.now }
+    ensures shorter { IfSome result (λ x. length x.now < length tokens.now) }
 {
-    let (sign, behind) = tokens.split_first()?;
-    match operation_of(sign) {
-        Some((at, op)) if at == level => Some((op, behind)),
+    match tokens {
+        [
+            Token {
+                kind: Kind::Question,
+                ..
+            },
+            others @ ..,
+        ] => Some(others),
         _ => None,
     }
 }
 
-// The number of the first variable with this name.
-fn number_of(vars: &[Var], word: &[u8]) -> Option<usize>
-    ensures number { result ≡ number_of vars.now word.now }
-    ensures within { MatchOption result (Unit {0}) (λ at. at < length vars.now) }
+// The tokens behind a `:`.
+fn behind_colon(tokens: &[Token]) -> Option<&[Token]>
+    ensures behind { option_map (λ x. x.now) result ≡ behind is_colon tokens.now }
+    ensures shorter { IfSome result (λ x. length x.now < length tokens.now) }
 {
-    vars.iter()
-        .position(|var| word == var.name.text().as_bytes())
-}
-
-// A name or a constant as a tree.
-fn leaf(expr: Expr) -> Tree
-    requires { depth_of expr ≡ 1 }
-    ensures { result.expr ≡ expr }
-{
-    Tree { expr, depth: 1 }
-}
-
-// primary: name or constant
-fn read_primary<'a>(vars: &[Var], tokens: &'a [Token]) -> Result<(Tree, &'a [Token]), ReturnFault>
-    requires { length vars.now ≤ 64 }
-    ensures found { IfOk result (λ x. Begins vars.now 2 tokens.now x.0.expr x.1.now) }
-    ensures shorter { IfOk result (λ x. length x.1.now < length tokens.now) }
-    ensures refused { IsErrOf result ReturnFault.Grammar →
-        (a : Expr) (rest : List Token) → Begins vars.now 2 tokens.now a rest → ⊥ }
-{
-    let Some((token, rest)) = tokens.split_first() else {
-        return Err(ReturnFault::Grammar);
-    };
-    match token {
-        Token::Word(word, _) => match number_of(vars, word.text().as_bytes()) {
-            Some(number) => Ok((leaf(Expr::Var(number as u32)), rest)),
-            None => Err(ReturnFault::Grammar),
-        },
-        Token::Constant(constant) => Ok((leaf(Expr::Num(constant.value() as i64)), rest)),
-        _ => Err(ReturnFault::Grammar),
+    match tokens {
+        [
+            Token {
+                kind: Kind::Colon,
+                ..
+            },
+            others @ ..,
+        ] => Some(others),
+        _ => None,
     }
 }
 
-// An operation on two operands, unless that is too deep.
-fn joined(alloc: Global, op: BinOp, left: Tree, right: Tree) -> Result<Tree, ReturnFault>
-    ensures joined { IfOk result (λ tree. tree.expr ≡ Expr.Bin op left.expr right.expr) }
-    ensures deep { IsErrOf result ReturnFault.Grammar → 398 < depth_of (Expr.Bin op left.expr right.expr) }
+// A name with its line.
+fn named(name: Name, line: u32) -> Tree
+    ensures made { raw_expression_of result.expr ≡ Named name line }
+    ensures depth { result.depth ≡ 1 }
 {
-    let depth = left.depth.max(right.depth) + 1;
-    if depth > DEEPEST {
-        return Err(ReturnFault::Grammar);
+    Tree {
+        expr: RawExpr::Var(name, line),
+        depth: 1,
     }
-    let left = Boxed::new(alloc, left.expr)?;
-    let right = Boxed::new(alloc, right.expr)?;
+}
+
+fn constant(value: u64) -> Tree
+    requires { value < 2 ^ 63 }
+    ensures made { raw_expression_of result.expr ≡ Num (pos value) }
+    ensures depth { result.depth ≡ 1 }
+{
+    Tree {
+        expr: RawExpr::Num(value as i64),
+        depth: 1,
+    }
+}
+
+// A sign with its operand.
+fn signed(alloc: Global, op: UnOp, operand: Tree) -> Result<Tree, AllocError>
+    requires { operand.depth + 1 < 2 ^ 32 }
+    ensures made { IfOk result (λ tree.
+        raw_expression_of tree.expr ≡ Un op (raw_expression_of operand.expr)) }
+    ensures depth { IfOk result (λ tree. tree.depth ≡ operand.depth + 1) }
+{
+    let depth = operand.depth + 1;
+    let operand = Boxed::new(alloc, operand.expr)?;
     Ok(Tree {
-        expr: Expr::Bin(op, left, right),
+        expr: RawExpr::Un(op, operand),
         depth,
     })
 }
 
-/// The longest expression of a level at the front, and the tokens after it.
+// An operation with its line and its operands.
+fn joined(alloc: Global, op: BinOp, line: u32, left: Tree, right: Tree) -> Result<Tree, AllocError>
+    requires { max left.depth right.depth + 1 < 2 ^ 32 }
+    ensures made { IfOk result (λ tree. raw_expression_of tree.expr
+        ≡ Bin op line (raw_expression_of left.expr) (raw_expression_of right.expr)) }
+    ensures depth { IfOk result (λ tree. tree.depth ≡ max left.depth right.depth + 1) }
+{
+    let depth = left.depth.max(right.depth) + 1;
+    let left = Boxed::new(alloc, left.expr)?;
+    let right = Boxed::new(alloc, right.expr)?;
+    Ok(Tree {
+        expr: RawExpr::Bin(op, line, left, right),
+        depth,
+    })
+}
+
+// A choice with its condition and its values.
+fn chosen(alloc: Global, cond: Tree, first: Tree, second: Tree) -> Result<Tree, AllocError>
+    requires { max cond.depth (max first.depth second.depth) + 1 < 2 ^ 32 }
+    ensures made { IfOk result (λ tree. raw_expression_of tree.expr
+        ≡ Cond (raw_expression_of cond.expr) (raw_expression_of first.expr) (raw_expression_of second.expr)) }
+    ensures depth { IfOk result (λ tree.
+        tree.depth ≡ max cond.depth (max first.depth second.depth) + 1) }
+{
+    let depth = cond.depth.max(first.depth.max(second.depth)) + 1;
+    let cond = Boxed::new(alloc, cond.expr)?;
+    let first = Boxed::new(alloc, first.expr)?;
+    let second = Boxed::new(alloc, second.expr)?;
+    Ok(Tree {
+        expr: RawExpr::Cond(cond, first, second),
+        depth,
+    })
+}
+
+// The room for the other parts of an expression that has a part of this depth.
+fn room_beside(depth: u32, room: u32) -> Result<u32, ReadFault>
+    ensures room { IfOk result (λ inside. inside + 1 ≡ room) }
+    ensures beside { IfOk result (λ inside. depth ≤ inside) }
+    ensures refused { IfErr result (Refuses (room ≤ depth)) }
+{
+    if depth < room {
+        Ok(room - 1)
+    } else {
+        Err(ReadFault::Grammar)
+    }
+}
+
+// primary: name, constant, or "(" expr ")"
+// unary: primary, or ("+" | "-" | "!") unary
+#[cycle(expression)]
+fn read_operand<'a>(
+    alloc: Global,
+    room: u32,
+    tokens: &'a [Token],
+) -> Result<(Tree, &'a [Token]), ReadFault>
+    ensures read { IfOk result (λ x.
+        operand_at tokens.now ≡ Some (raw_expression_of x.0.expr, x.1.now)) }
+    ensures within { IfOk result (λ x. x.0.depth ≤ room) }
+    ensures shorter { IfOk result (λ x. length x.1.now < length tokens.now) }
+    ensures refused { IfErr result (Refuses (IsDeeper room (operand_at tokens.now))) }
+{
+    if room == 0 {
+        return Err(ReadFault::Grammar);
+    }
+    let Some((token, others)) = tokens.split_first() else {
+        return Err(ReadFault::Grammar);
+    };
+    match &token.kind {
+        Kind::Word(name) => Ok((named(name.copy()?, token.line), others)),
+        Kind::Constant(value) => {
+            if *value > i64::MAX as u64 {
+                return Err(ReadFault::Grammar);
+            }
+            Ok((constant(*value), others))
+        }
+        Kind::OpenRound => {
+            let (inside, after) = read_expression(alloc, room, others)?;
+            let Some(after) = behind_closing(after) else {
+                return Err(ReadFault::Grammar);
+            };
+            Ok((inside, after))
+        }
+        kind => {
+            let Some(op) = unary_of(kind) else {
+                return Err(ReadFault::Grammar);
+            };
+            let (operand, after) = read_operand(alloc, room - 1, others)?;
+            Ok((signed(alloc, op, operand)?, after))
+        }
+    }
+}
+
+// The operations of a level and of tighter ones.
+//
+// Each right operand is of the level above its operator's, so equal levels group to the left.
+#[cycle(expression)]
+fn read_level<'a>(
+    alloc: Global,
+    room: u32,
+    level: u32,
+    tokens: &'a [Token],
+) -> Result<(Tree, &'a [Token]), ReadFault>
+    ensures read { IfOk result (λ x.
+        level_at level tokens.now ≡ Some (raw_expression_of x.0.expr, x.1.now)) }
+    ensures within { IfOk result (λ x. x.0.depth ≤ room) }
+    ensures shorter { IfOk result (λ x. length x.1.now < length tokens.now) }
+    ensures refused { IfErr result (Refuses (IsDeeper room (level_at level tokens.now))) }
+{
+    let (mut left, mut others) = read_operand(alloc, room, tokens)?;
+    while let Some((at, op, line, behind)) = next_operator(level, others) {
+        let inside = room_beside(left.depth, room)?;
+        let (right, after) = read_level(alloc, inside, at + 1, behind)?;
+        left = joined(alloc, op, line, left, right)?;
+        others = after;
+    }
+    Ok((left, others))
+}
+
+/// The longest expression at the front of the tokens, and the tokens behind it. Its depth is at most `room`.
 ///
-/// Operations of one level group to the left, so they are read in a loop.
+/// `Grammar`: no expression stands there, or the longest one is deeper. It is never `Deep`.
+#[cycle(expression)]
 pub fn read_expression<'a>(
     alloc: Global,
-    level: u32,
-    vars: &[Var],
+    room: u32,
     tokens: &'a [Token],
-) -> Result<(Tree, &'a [Token]), ReturnFault>
-    requires level { level ≤ 2 }
-    requires few { length vars.now ≤ 64 }
-    ensures found { IfOk result (λ x. Begins vars.now level tokens.now x.0.expr x.1.now) }
+) -> Result<(Tree, &'a [Token]), ReadFault>
+    ensures read { IfOk result (λ x.
+        expression_at tokens.now ≡ Some (raw_expression_of x.0.expr, x.1.now)) }
+    ensures within { IfOk result (λ x. x.0.depth ≤ room) }
     ensures shorter { IfOk result (λ x. length x.1.now < length tokens.now) }
-    ensures refused { IsErrOf result ReturnFault.Grammar →
-        (a : Expr) (rest : List Token) → Begins vars.now level tokens.now a rest → 398 < depth_of a }
+    ensures refused { IfErr result (Refuses (IsDeeper room (expression_at tokens.now))) }
 {
-    if level == PRIMARY {
-        return read_primary(vars, tokens);
-    }
-    let (mut left, mut rest) = read_expression(alloc, level + 1, vars, tokens)?;
-    while let Some((op, behind)) = operator_at(level, rest) {
-        let (right, after) = read_expression(alloc, level + 1, vars, behind)?;
-        left = joined(alloc, op, left, right)?;
-        rest = after;
-    }
-    Ok((left, rest))
+    let (cond, others) = read_level(alloc, room, LOOSEST, tokens)?;
+    let Some(others) = behind_question(others) else {
+        return Ok((cond, others));
+    };
+    let inside = room_beside(cond.depth, room)?;
+    let (first, after) = read_expression(alloc, inside, others)?;
+    let Some(after) = behind_colon(after) else {
+        return Err(ReadFault::Grammar);
+    };
+    let (second, after) = read_expression(alloc, inside, after)?;
+    Ok((chosen(alloc, cond, first, second)?, after))
 }

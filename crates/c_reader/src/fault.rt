@@ -1,30 +1,32 @@
-//! Why a text was not read.
+//! Why tokens were not read.
 ghost use Rattle.std.specs.Prelude.{◌≡◌};
-ghost use Rattle.c_reader.specs.declared.fault.ReturnFault.TheVariants.{Memory};
+ghost use Rattle.c_reader.specs.declared.fault.ReadFault.TheVariants.{Memory};
 
 use std::alloc::{AllocError, AllocFailed};
 
-/// Why a text was not read.
+/// Why tokens were not read.
 #[derive(Clone, Copy, Debug, PartialEq, Eq)]
-pub enum ReturnFault {
-    /// The text is no function of one `return`: it has another form, or passes a limit.
+pub enum ReadFault {
+    /// In some prefix of the tokens the openings `(` and `{` exceed the closings `)` and `}` by more than 200.
+    Deep,
+    /// It is not `Deep`, and no tree of depth at most 400 spells the tokens.
     Grammar,
     /// Memory ran out.
     Memory,
 }
 
-impl From<AllocError> for ReturnFault {
+impl From<AllocError> for ReadFault {
     ghost from_gives = { λ _ e. e ≡ Memory };
 
-    fn from(_: AllocError) -> ReturnFault {
-        ReturnFault::Memory
+    fn from(_: AllocError) -> ReadFault {
+        ReadFault::Memory
     }
 }
 
-impl<T: Drop> From<AllocFailed<T>> for ReturnFault {
+impl<T: Drop> From<AllocFailed<T>> for ReadFault {
     ghost from_gives = { λ _ e. e ≡ Memory };
 
-    fn from(_: AllocFailed<T>) -> ReturnFault {
-        ReturnFault::Memory
+    fn from(_: AllocFailed<T>) -> ReadFault {
+        ReadFault::Memory
     }
 }

@@ -1,21 +1,23 @@
-//! Reads a text as a C function of one `return`.
+//! Reads the tokens of a file as its functions.
 //!
-//! A text goes in, and a `Func` comes out, or the fault that the text has no such form. The text becomes tokens, each
-//! the longest match at its place (`tokens`). Recursive descent takes the function from them (`function`), with one loop
-//! for the operators of a level (`expression`). `specs/Reads.antt` says which function a text is read as, over
-//! `Tokens.antt` (ISO C11, 6.4), `Parameters.antt` (6.7.6.3) and `Expressions.antt` (6.5).
+//! Tokens go in, and the tree that they spell comes out, or the fault that brackets nest too deep, or that no tree of at
+//! most 400 levels is spelled so. `specs/Units.antt` says which tokens spell which functions, over `Statements.antt`,
+//! `Declarations.antt` and `Expressions.antt` (ISO C11, 6.5 to 6.9), and `Depth.antt` measures both depths. Recursive
+//! descent: each rule of the grammar is a function (`unit`, `statement`, `simple`, `declaration`), and the binary
+//! operators have one loop (`expression`).
 #![tactic(auto)]
 
-mod bytes;
+mod declaration;
+mod depth;
 mod expression;
 mod fault;
-mod function;
-mod parameters;
+mod operators;
+mod sign;
+mod simple;
+mod statement;
 #[cfg(test)]
 mod tests;
-mod token;
-mod tokens;
-mod words;
+mod unit;
 
-pub use fault::ReturnFault;
-pub use function::{one_reading, read_return};
+pub use fault::ReadFault;
+pub use unit::{one_tree, read_unit};

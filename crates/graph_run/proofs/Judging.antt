@@ -1,6 +1,6 @@
 -- What a run is judged to be is determined, and a trace among it is the function's.
 use Rattle.std.proofs.lemmas.Bool.Decides.{nat_tests}
-use Rattle.std.proofs.Common.{◌≡◌, ℕ, zero, suc, ◌+◌, ◌<◌, ◌≤◌, Bool, true, false, cond, nat_lt, List, ◌∷◌, length, Option, Some, None, ℤ, refl, sym, ap, ◌∙◌, subst, arith}
+use Rattle.std.proofs.Common.{◌≡◌, ℕ, zero, suc, ◌+◌, ◌≤◌, Bool, true, false, cond, nat_lt, List, ◌∷◌, length, Option, Some, None, ℤ, refl, sym, ap, ◌∙◌, arith}
 use Rattle.c_ast.specs.declared.trace.Event.{Event}
 use Rattle.c_ast.specs.declared.trace.Trace.{Trace}
 use Rattle.c_ast.specs.declared.interpreter.Outcome.{Outcome}
@@ -9,7 +9,7 @@ use Rattle.c_ast.specs.declared.place.Place.TheVariants as place
 use Rattle.c_ast.specs.Step as run
 use Rattle.c_ast.specs.Step.{Work, scope_of, values_in, first_variables, start, spread, step, evaluated, seen, seen_next}
 use Rattle.c_ast.specs.Shown.{evaluates_narrow}
-use Rattle.c_ast.specs.Trace.{no_event, IsTrace}
+use Rattle.c_ast.specs.Trace.{no_event}
 use Rattle.c_ast.specs.Interpreted.{with_first, at_event, returned, interpreted, or_cut_off}
 use Rattle.c_ast.proofs.Outcomes.{outcome_is_trace}
 use Rattle.flow_graph.specs.Operation.{Operation}

@@ -3,8 +3,8 @@ ghost use Rattle.std.specs.Prelude.{◌≡◌, length};
 ghost use Rattle.graph_run.specs.Answers.{AreNarrow, Answers};
 
 use crate::Skip;
-use crate::step::{Next, event, first_environment, step};
-use c_ast::{Place, Trace};
+use crate::step::{Next, event, step};
+use c_ast::{Place, Trace, first_environment};
 use flow_graph::Graph;
 use sqlite_items::Items;
 use std::alloc::Global;
@@ -16,7 +16,7 @@ pub fn run(alloc: Global, graph: &Graph, input: &[i128], marks: u32) -> Result<T
     requires narrow { AreNarrow input.now }
     ensures { Answers graph.now input.now marks result }
 {
-    let mut values = first_environment(alloc, graph.vars(), input)?;
+    let mut values = first_environment(alloc, graph.vars() as usize, input)?;
     let environment = values.as_mut_slice();
     let mut events = Items::new(alloc);
     let mut left = marks;

@@ -1,8 +1,7 @@
 //! One step of a graph.
-ghost use Rattle.std.specs.Prelude.{◌≡◌, ◌<◌, if◌then◌else◌, length, map, pos, slice_index_or, IfOk, All};
+ghost use Rattle.std.specs.Prelude.{◌≡◌, ◌<◌, if◌then◌else◌, length, map, IfOk, All};
 ghost use Rattle.c_ast.specs.Value.{is_nonzero};
 ghost use Rattle.c_ast.specs.declared.place.Place.TheVariants as place;
-ghost use Rattle.c_ast.specs.Step.{first_variables, spread};
 ghost use Rattle.flow_graph.specs.Operation.{operation_of};
 ghost use Rattle.flow_graph.specs.FlowGraph.{variables_at, HasPlace};
 ghost use Rattle.flow_graph.specs.Run.{values_of};
@@ -55,27 +54,6 @@ pub(crate) fn step(op: &Op, environment: &mut [i128]) -> Next
             None => Next::Wide,
         },
     }
-}
-
-fn input_at(input: &[i128], x: usize) -> i128
-    ensures { result ≡ slice_index_or input.now x (pos 0) }
-{
-    if x < input.len() { input[x] } else { 0 }
-}
-
-/// The values of all variables as a run begins: the inputs, and 0 for all that are no parameters.
-pub(crate) fn first_environment(
-    alloc: Global,
-    vars: u32,
-    input: &[i128],
-) -> Result<Vec<i128>, AllocError>
-    ensures { IfOk result (λ values. values.items ≡ spread (first_variables (length input.now)) vars input.now) }
-{
-    let mut values = Vec::new(alloc);
-    for x in 0..vars as usize {
-        values.push(input_at(input, x))?;
-    }
-    Ok(values)
 }
 
 /// The event of passing a mark of the graph with these values of all variables.

@@ -3,13 +3,14 @@ ghost use Rattle.std.specs.Prelude.{◌≡◌, [], ◌∷◌, length, pos, IfOk,
 ghost use Rattle.c_ast.specs.declared.expr.BinOp.TheVariants.{Add};
 ghost use Rattle.c_ast.specs.Tree as tree;
 ghost use Rattle.c_ast.specs.Tree.{Statements};
+ghost use Rattle.c_ast.specs.Narrow.{is_narrow};
 ghost use Rattle.c_ast.specs.View.{expression_of, put_in_front, statements_of};
 ghost use Rattle.c_ast.specs.Function.{program_of};
 ghost use Rattle.flow_graph.specs.Sums.{sums};
 
 use crate::{Skip, run};
 use c_ast::{BinOp, Expr, Func, Name, Place, Stmt, Trace, Var};
-use flow_graph::build;
+use flow_graph::{Graph, build};
 use sqlite_items::{Boxed, Items};
 use std::alloc::{AllocError, Global};
 use std::test::Fail;
@@ -134,37 +135,71 @@ fn shown(alloc: Global, answer: &Result<Trace, Skip>) -> Result<String, AllocErr
     Ok(out)
 }
 
+/// The graph of a function of one parameter.
+fn graph_of(alloc: Global, func: &Func) -> Result<Graph, AllocError>
+    requires { (program_of func.now).params ≡ 1 }
+    ensures { IfOk result (λ graph. graph.params ≡ 1) }
+{
+    let graph = build(alloc, func)?;
+    Ok(graph)
+}
+
+/// What comes of a run of the sum.
+fn run_sum(alloc: Global, input: i128, marks: u32) -> Result<String, AllocError>
+    requires { is_narrow input ≡ true }
+{
+    let graph = graph_of(alloc, &sum(alloc)?)?;
+    shown(alloc, &run(alloc, &graph, &[input], marks))
+}
+
+/// What comes of a run of the double.
+fn run_double(alloc: Global, input: i128) -> Result<String, AllocError>
+    requires { is_narrow input ≡ true }
+{
+    let graph = graph_of(alloc, &double(alloc)?)?;
+    shown(alloc, &run(alloc, &graph, &[input], 0))
+}
+
+/// The places of the sum's graph, each with the variables in scope there.
+fn places_of_sum(alloc: Global) -> Result<String, AllocError> {
+    let graph = graph_of(alloc, &sum(alloc)?)?;
+    places(alloc, &graph)
+}
+
+/// The places of a graph, each with the variables in scope there.
+fn places(alloc: Global, graph: &Graph) -> Result<String, AllocError> {
+    let mut out = String::new(alloc);
+    for place in &graph.places(alloc)? {
+        write!(out, "{place:?}")?;
+        for x in &graph.vars_at(alloc, *place)? {
+            write!(out, " {x}")?;
+        }
+        out.push_str("; ")?;
+    }
+    Ok(out)
+}
+
 #[test]
 fn places_list_the_variables_in_scope(rt: HostRuntime) -> Result<(), Fail> {
-    let alloc = rt.alloc();
-    let graph = build(alloc, &sum(alloc)?)?;
-    let rows = [
-        (Place::Entry, &[0][..]),
-        (Place::Mark(42), &[0, 1, 2][..]),
-        (Place::Exit, &[][..]),
-    ];
-    let places = graph.places(alloc)?;
-    assert_eq!(rt; places.len(), rows.len());
-    for (place, (want, variables)) in places.iter().zip(rows) {
-        assert_eq!(rt; *place, want);
-        let got = graph.vars_at(alloc, *place)?;
-        assert_eq!(rt; got.as_slice(), variables, "{place:?}");
-    }
+    let got = places_of_sum(rt.alloc())?;
+    assert_eq!(rt; got.as_str(), "Entry 0; Mark(42) 0 1 2; Exit; ");
     Ok(())
 }
 
 #[test]
-fn runs_pass_marks_or_are_skipped(rt: HostRuntime) -> Result<(), Fail> {
-    let alloc = rt.alloc();
-    let graph = build(alloc, &sum(alloc)?)?;
-    let answer = shown(alloc, &run(alloc, &graph, &[2], 3))?;
-    assert_eq!(rt; answer.as_str(), "42: 2 0 0; 42: 2 1 0; 42: 2 2 1; 1");
-    let answer = shown(alloc, &run(alloc, &graph, &[2], 2))?;
-    assert_eq!(rt; answer.as_str(), "NotEnded");
-    let graph = build(alloc, &double(alloc)?)?;
-    let answer = shown(alloc, &run(alloc, &graph, &[HALF - 1], 0))?;
-    assert_eq!(rt; answer.as_str(), "1267650600228229401496703205374");
-    let answer = shown(alloc, &run(alloc, &graph, &[HALF], 0))?;
-    assert_eq!(rt; answer.as_str(), "Wide");
+fn a_run_passes_its_marks(rt: HostRuntime) -> Result<(), Fail> {
+    let got = run_sum(rt.alloc(), 2, 3)?;
+    assert_eq!(rt; got.as_str(), "42: 2 0 0; 42: 2 1 0; 42: 2 2 1; 1");
+    let got = run_sum(rt.alloc(), 2, 2)?;
+    assert_eq!(rt; got.as_str(), "NotEnded");
+    Ok(())
+}
+
+#[test]
+fn a_wide_value_ends_a_run(rt: HostRuntime) -> Result<(), Fail> {
+    let got = run_double(rt.alloc(), HALF - 1)?;
+    assert_eq!(rt; got.as_str(), "1267650600228229401496703205374");
+    let got = run_double(rt.alloc(), HALF)?;
+    assert_eq!(rt; got.as_str(), "Wide");
     Ok(())
 }

@@ -1,2 +1,5 @@
+pub mod Reading
+pub mod OneReading
+pub mod Marks
 pub mod Judging
 pub mod Telling

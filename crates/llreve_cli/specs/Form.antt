@@ -1,10 +1,12 @@
 -- The linear form of an expression, where it has one: no product of two forms that are not constant, and no entry of
 -- 2^50 or more in size, stands in its computation.
 use Rattle.std.specs.Prelude.{◌≡◌, ℕ, ℤ, negsuc, if◌then◌else◌, List, Option, Some, None, Result, Ok, Err}
+use Rattle.c_ast.specs.declared.expr.UnOp.{UnOp}
+use Rattle.c_ast.specs.declared.expr.UnOp.TheVariants.{Plus, Minus, Not}
 use Rattle.c_ast.specs.declared.expr.BinOp.{BinOp}
 use Rattle.c_ast.specs.declared.expr.BinOp.TheVariants.{Mul, Add, Sub, Less, LessEq, Greater, GreaterEq, Equal, NotEqual, And, Or}
 use Rattle.c_ast.specs.Tree.{Expression, Num, Var, Un, Bin, Cond}
-use Rattle.c_ast.specs.Value.{binary_value}
+use Rattle.c_ast.specs.Value.{unary_value, binary_value}
 use Rattle.lin_terms.specs.declared.form.Form.{Form}
 use Rattle.lin_terms.specs.Form.{value_at, sum_of, multiple_of, constant_form, variable_form, is_constant}
 use Rattle.lin_terms.specs.Narrow.{narrow}
@@ -40,11 +42,21 @@ both join None y = None
 both join (Some x) None = None
 both join (Some x) (Some y) = join x y
 
+abbrev pub signed : UnOp → Form → Option Form
+signed Plus x = Some x
+signed Minus x = narrow (multiple_of (negsuc 0) x)
+signed Not x = None
+
+-- the form with a sign, where there is one
+abbrev pub then_signed : UnOp → Option Form → Option Form
+then_signed op None = None
+then_signed op (Some x) = signed op x
+
 -- the form over `count` variables
 abbrev pub form_of : ℕ → Expression → Option Form
 form_of count (Num z) = narrow (constant_form count z)
 form_of count (Var x) = Some (variable_form count x)
-form_of count (Un op e) = None
+form_of count (Un op e) = then_signed op (form_of count e)
 form_of count (Bin op e f) = both (joined op) (form_of count e) (form_of count f)
 form_of count (Cond c e f) = None
 
@@ -57,3 +69,7 @@ Gives (Err Memory) wanted = Unit {0}
 -- At each point the form's value is what the operator gives of the two forms' values.
 abbrev pub HasValue : BinOp → Form → Form → Form → Type 0
 HasValue op x y form = (values : List ℤ) → value_at form values ≡ binary_value op (value_at x values) (value_at y values)
+
+-- At each point the form's value is what the sign gives of the other's value.
+abbrev pub HasSignedValue : UnOp → Form → Form → Type 0
+HasSignedValue op x form = (values : List ℤ) → value_at form values ≡ unary_value op (value_at x values)

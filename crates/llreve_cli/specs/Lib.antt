@@ -3,6 +3,8 @@ pub mod Texts
 pub mod Form
 pub mod NoForm
 pub mod Compare
+pub mod TextFaults
+pub mod Reads
 pub mod Leads
 pub mod Stops
 pub mod Tells

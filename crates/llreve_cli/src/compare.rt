@@ -11,7 +11,7 @@ use crate::fault::Fault;
 use crate::form::{NoForm, form_of};
 use crate::outcome::Outcome;
 use crate::stop::Stop;
-use c_ast::{Expr, Func};
+use c_ast::{Arity, Expr, Func};
 use std::alloc::{AllocError, Global};
 
 // Whether both expressions over `count` variables have a form, and the forms are equal.
@@ -57,7 +57,10 @@ pub fn compare(alloc: Global, first: &Func, second: &Func) -> Result<Outcome, St
 {
     let (m, n) = (first.params(), second.params());
     if m != n {
-        return Err(Stop::Refused(Fault::Arity(m, n)));
+        return Err(Stop::Refused(Fault::Different(Arity {
+            first: m,
+            second: n,
+        })));
     }
     if are_equivalent(alloc, first, second)? {
         Ok(Outcome::Equivalent)

@@ -4,9 +4,9 @@ ghost use Rattle.c_ast.specs.Value.{eval, VariablesBelow};
 ghost use Rattle.c_ast.specs.View.{expression_of};
 ghost use Rattle.lin_terms.specs.Form.{value_at, sum_of, multiple_of};
 ghost use Rattle.lin_terms.specs.Narrow.{narrow};
-ghost use Rattle.llreve_cli.specs.Form.{form_of, joined, product, Gives, HasValue};
+ghost use Rattle.llreve_cli.specs.Form.{form_of, joined, product, signed, Gives, HasValue, HasSignedValue};
 
-use c_ast::{BinOp, Expr};
+use c_ast::{BinOp, Expr, UnOp};
 use lin_terms::{Form, FormFault, add, constant_form, scale, variable_form};
 use std::alloc::{AllocError, Global};
 
@@ -100,6 +100,18 @@ fn joined(alloc: Global, op: BinOp, x: &Form, y: &Form) -> Result<Form, NoForm>
     }
 }
 
+fn signed(alloc: Global, op: UnOp, x: Form) -> Result<Form, NoForm>
+    ensures gives { Gives result (signed op x) }
+    ensures columns { IfOk result (λ form. length form.coefs ≡ length x.coefs) }
+    ensures value { IfOk result (HasSignedValue op x) }
+{
+    match op {
+        UnOp::Plus => Ok(x),
+        UnOp::Minus => multiple(alloc, &x, -1),
+        UnOp::Not => Err(NoForm::Absent),
+    }
+}
+
 /// The form over `count` variables that has the expression's value at each point.
 pub fn form_of(alloc: Global, count: usize, expr: &Expr) -> Result<Form, NoForm>
     requires { VariablesBelow count (expression_of expr.now) }
@@ -110,11 +122,15 @@ pub fn form_of(alloc: Global, count: usize, expr: &Expr) -> Result<Form, NoForm>
     match expr {
         Expr::Num(constant) => Ok(constant_form(alloc, count, *constant)?),
         Expr::Var(x) => Ok(variable_form(alloc, count, *x as usize)?),
+        Expr::Un(op, operand) => {
+            let form = form_of(alloc, count, operand.get())?;
+            signed(alloc, *op, form)
+        }
         Expr::Bin(op, left, right) => {
             let first = form_of(alloc, count, left.get())?;
             let second = form_of(alloc, count, right.get())?;
             joined(alloc, *op, &first, &second)
         }
-        _ => Err(NoForm::Absent),
+        Expr::Cond(..) => Err(NoForm::Absent),
     }
 }

@@ -1,17 +1,17 @@
 //! From the words and the files to the outcome.
 ghost use Rattle.std.specs.Prelude.{◌≡◌, ℕ, ◌≤◌, List, length, map, string_bytes, IfOk, IfErr, MatchResult};
 ghost use Rattle.re_base.specs.Told.{IsWhole};
-ghost use Rattle.c_reader.specs.Reads.{Reads};
+ghost use Rattle.llreve_cli.specs.Reads.{Reads};
 ghost use Rattle.llreve_cli.specs.Leads.{Leads};
 ghost use Rattle.llreve_cli.specs.Stops.{StopsReading, StopsParsing, StopLeads};
 
 use crate::compare::compare;
 use crate::fault::Fault;
+use crate::function::{TextFault, read_function};
 use crate::outcome::Outcome;
 use crate::stop::Stop;
 use crate::words::operands;
 use c_ast::{Func, Name};
-use c_reader::{ReturnFault, read_return};
 use re_base::{FileFault, Files};
 use std::alloc::{AllocError, Global};
 
@@ -43,10 +43,21 @@ fn read_func(alloc: Global, name: &str, text: &[u8]) -> Result<Func, Stop>
     ensures read { IfOk result (Reads text.now) }
     ensures stopped { IfErr result (StopsParsing name.now text.now) }
 {
-    match read_return(alloc, text) {
+    match read_function(alloc, text) {
         Ok(func) => Ok(func),
-        Err(ReturnFault::Grammar) => Err(Stop::Refused(Fault::Grammar(named(alloc, name)?))),
-        Err(ReturnFault::Memory) => Err(Stop::Memory),
+        Err(TextFault::Token(fault)) => Err(Stop::Refused(Fault::Token(
+            named(alloc, name)?,
+            fault,
+        ))),
+        Err(TextFault::Reader(fault)) => Err(Stop::Refused(Fault::Reader(
+            named(alloc, name)?,
+            fault,
+        ))),
+        Err(TextFault::Check(fault)) => Err(Stop::Refused(Fault::Check(
+            named(alloc, name)?,
+            fault,
+        ))),
+        Err(TextFault::Memory) => Err(Stop::Memory),
     }
 }
 

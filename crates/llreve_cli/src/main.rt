@@ -8,6 +8,7 @@ mod alone;
 mod compare;
 mod fault;
 mod form;
+mod function;
 mod judge;
 mod outcome;
 mod stop;

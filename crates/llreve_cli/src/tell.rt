@@ -1,6 +1,6 @@
 //! Writing an outcome.
 ghost use Rattle.std.specs.Prelude.{◌≡◌};
-ghost use Rattle.llreve_cli.specs.Texts.{fault_status};
+ghost use Rattle.llreve_cli.specs.Texts.{fault_status, IsKeptOutcome};
 ghost use Rattle.llreve_cli.specs.Tells.{Tells};
 
 use crate::fault::{Fault, fault_text};
@@ -19,6 +19,7 @@ fn fault_status(fault: &Fault) -> u8
 
 /// Writes the outcome, and answers the status. The memory of a fault's text is taken before its first byte goes out.
 pub fn tell<O: Sink, E: Sink>(alloc: Global, outcome: &Outcome, out: &mut O, err: &mut E) -> u8
+    requires { IsKeptOutcome outcome.now }
     ensures { Tells outcome.now (O.written out.old) (O.written out.new) (E.written err.old) (E.written err.new)
         (O.faults out.old) (O.faults out.new) (E.faults err.old) (E.faults err.new) result }
 {

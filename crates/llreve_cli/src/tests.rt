@@ -1,7 +1,9 @@
 //! The whole command over files and sinks in memory. A row's right side is the status, and what both sinks hold.
+ghost use Rattle.std.specs.Prelude.{◌≡◌, length};
+
 use crate::alone::llreve_alone;
-use c_ast::{Outcome, interpret};
-use c_reader::read_return;
+use crate::function::read_function;
+use c_ast::{Func, Outcome, Place, Settings, Subject, Trace, interpret};
 use re_base::{MemFiles, MemSink};
 use std::alloc::{AllocError, Global};
 use std::test::Fail;
@@ -9,6 +11,37 @@ use std::test::Fail;
 const DOUBLE: &str = "int f(int a){return a+a;}";
 
 const TWICE: &str = "int f(int a){return 2*a;}";
+
+// Two files as users write them.
+const USERS_FIRST: &str = "#include <assert.h>
+extern int __mark(int);
+
+/* The sum of 1 to n. */
+int f(int n) {
+    int i = 1;
+    int s = 0;
+    while (__mark(42) & (i <= n)) {
+        s += i;
+        i++;
+    }
+    return s;
+}
+";
+
+const USERS_SECOND: &str = "#include <assert.h>
+extern int __mark(int);
+
+// The same, from 0 on.
+int f(int n) {
+    int i = 0;
+    int s = 0;
+    while (__mark(42) & (i < n)) {
+        i++;
+        s += i;
+    }
+    return s;
+}
+";
 
 /// What a run of the command meets: the texts of `A.c` and `B.c`, the numbers of the calls that fail, and how many bytes
 /// a call of a sink takes at most.
@@ -79,13 +112,18 @@ fn texts_are_compared(rt: HostRuntime) -> Result<(), Fail> {
             "0|equivalent\n|",
         ),
         (
-            "int f(int a, int b){\n\treturn 3*a - 2*b - a;\n}\n",
-            "int f(int x, int y){ return (2*x) ; }",
-            "3||llreve: B.c: not in the grammar\n",
+            "int f(void){return 010;}",
+            "int f(void){return 8;}",
+            "0|equivalent\n|",
         ),
         (
             "int f(int a, int b){\n\treturn 3*a - 2*b - a;\n}\n",
-            "int f(int x, int y){ return 2*x-y-y ; }",
+            "int f(int x, int y){ return +(2*(x-y)) ; }",
+            "0|equivalent\n|",
+        ),
+        (
+            "int f(int a){return -a;}",
+            "extern long f(long a){return 0-a;}",
             "0|equivalent\n|",
         ),
         (
@@ -104,6 +142,21 @@ fn texts_are_compared(rt: HostRuntime) -> Result<(), Fail> {
             "2|unknown\n|",
         ),
         (
+            "int f(int a){return !a;}",
+            "int f(int a){return !a;}",
+            "2|unknown\n|",
+        ),
+        (
+            "int f(int a){return a?a:a;}",
+            "int f(int a){return a;}",
+            "2|unknown\n|",
+        ),
+        (
+            "int f(int a){;return a;}",
+            "int f(int a){return a;}",
+            "0|equivalent\n|",
+        ),
+        (
             "int f(int a){return 1125899906842623;}",
             "int f(int a){return 1125899906842623;}",
             "0|equivalent\n|",
@@ -114,26 +167,190 @@ fn texts_are_compared(rt: HostRuntime) -> Result<(), Fail> {
             "2|unknown\n|",
         ),
         (
-            "int f(int a){int x; int y; x = y = 1; return x;}",
-            TWICE,
-            "3||llreve: A.c: not in the grammar\n",
-        ),
-        (DOUBLE, "", "3||llreve: B.c: not in the grammar\n"),
-        ("x", "y", "3||llreve: A.c: not in the grammar\n"),
-        (
             "int f(int a){return a;}",
             "int f(int a,int b){return a;}",
             "3||llreve: arity 1 and 2\n",
         ),
+        // The texts are judged one after the other, and before the numbers of parameters.
+        ("int f(int a){", "'", "3||llreve: A.c: not in the grammar\n"),
         (
-            "int f(int a){return b;}",
-            "int f(){return 1;}",
-            "3||llreve: A.c: not in the grammar\n",
+            DOUBLE,
+            "int f(int a,int b){return c;}",
+            "3||llreve: B.c:1: undeclared c\n",
         ),
+        (USERS_FIRST, USERS_SECOND, "2|unknown\n|"),
     ];
     for (first, second, want) in rows {
         let got = Run::on(first, second).told(rt.alloc(), &NAMES)?;
         assert_eq!(rt; got.as_str(), want, "{first} and {second}");
+    }
+    Ok(())
+}
+
+#[test]
+fn texts_are_refused(rt: HostRuntime) -> Result<(), Fail> {
+    let rows = [
+        ("", "3||llreve: A.c: no function\n"),
+        ("extern int __mark(int);", "3||llreve: A.c: no function\n"),
+        ("x", "3||llreve: A.c: not in the grammar\n"),
+        (
+            "int f(int a){int x; int y; x = y = 1; return x;}",
+            "3||llreve: A.c: not in the grammar\n",
+        ),
+        (
+            "int f(int a){\n  float b; return a;}",
+            "3||llreve: A.c:2:3: unsupported float\n",
+        ),
+        (
+            "int f(int a){return \"a\";}",
+            "3||llreve: A.c:1:21: no token\n",
+        ),
+        (
+            "int f(int a){return a / 2;}",
+            "3||llreve: A.c:1:23: unsupported /\n",
+        ),
+        (
+            "int f(int a){return 9223372036854775808;}",
+            "3||llreve: A.c:1:21: literal out of range\n",
+        ),
+        (
+            "int f(int a){return a;}\nint g(int a){return a;}",
+            "3||llreve: A.c: 2 functions\n",
+        ),
+        (
+            "int f(int a){\nreturn b;}",
+            "3||llreve: A.c:2: undeclared b\n",
+        ),
+        (
+            "int f(int a){int a; return a;}",
+            "3||llreve: A.c:1: declared twice a\n",
+        ),
+        (
+            "int f(int a){{int a;}\n{int b; int c,\nb;} return a;}",
+            "3||llreve: A.c:3: declared twice b\n",
+        ),
+        (
+            "int f(int a){{int b;} return b;}",
+            "3||llreve: A.c:1: undeclared b\n",
+        ),
+        (
+            "int f(int a){for(int i=0;i<a;i++);\nreturn i;}",
+            "3||llreve: A.c:2: undeclared i\n",
+        ),
+        (
+            "int f(int a){\n\nbreak; return a;}",
+            "3||llreve: A.c:3: outside a loop\n",
+        ),
+        (
+            "int f(int a){if(a) continue; return a;}",
+            "3||llreve: A.c:1: outside a loop\n",
+        ),
+        (
+            "int f(int a){__mark(5); __mark(5); return a;}",
+            "3||llreve: A.c: mark 5 twice\n",
+        ),
+        (
+            "int f(int a){__mark(5); while(__mark(5)&&b); return a;}",
+            "3||llreve: A.c: mark 5 twice\n",
+        ),
+        (
+            "int f(int a){__mark(1000000); return a;}",
+            "3||llreve: A.c: mark 1000000 out of range\n",
+        ),
+        (
+            "int f(int a){for(;b;c++) d=0; return a;}",
+            "3||llreve: A.c:1: undeclared b\n",
+        ),
+        (
+            "int f(int a){for(;a;c++) d=0; return a;}",
+            "3||llreve: A.c:1: undeclared c\n",
+        ),
+        (
+            "int f(int a){do d=0; while(b); return a;}",
+            "3||llreve: A.c:1: undeclared d\n",
+        ),
+    ];
+    for (text, want) in rows {
+        let got = Run::on(text, TWICE).told(rt.alloc(), &NAMES)?;
+        assert_eq!(rt; got.as_str(), want, "{text}");
+    }
+    Ok(())
+}
+
+/// The text of this many times the same between a front and a back.
+fn repeated(
+    alloc: Global,
+    front: &str,
+    middle: &str,
+    times: usize,
+    back: &str,
+) -> Result<String, AllocError> {
+    let mut text = String::from_str(alloc, front)?;
+    for _ in 0..times {
+        text.push_str(middle)?;
+    }
+    text.push_str(back)?;
+    Ok(text)
+}
+
+#[test]
+fn texts_nest_as_deep_as_may_be(rt: HostRuntime) -> Result<(), Fail> {
+    let alloc = rt.alloc();
+    let rows = [
+        ("int f(int a){return ", "(", 199, "a", ")", "2|unknown\n|"),
+        (
+            "int f(int a){return ",
+            "(",
+            200,
+            "a",
+            ")",
+            "3||llreve: A.c: nested too deep\n",
+        ),
+        (
+            "int f(int a){",
+            "if(a) ",
+            398,
+            "; return a;",
+            "",
+            "2|unknown\n|",
+        ),
+        (
+            "int f(int a){",
+            "if(a) ",
+            399,
+            "; return a;",
+            "",
+            "3||llreve: A.c: not in the grammar\n",
+        ),
+    ];
+    for (front, opening, times, middle, closing, want) in rows {
+        let mut text = repeated(alloc, front, opening, times, middle)?;
+        let closings = repeated(alloc, "", closing, times, ";}")?;
+        text.push_str(closings.as_str())?;
+        let got = Run::on(text.as_str(), "int f(int a){return 2;}").told(alloc, &NAMES)?;
+        assert_eq!(rt; got.as_str(), want, "{times} times {opening}");
+    }
+    Ok(())
+}
+
+/// One parameter and this many more variables.
+fn with_variables(alloc: Global, count: usize) -> Result<String, AllocError> {
+    let mut text = String::from_str(alloc, "int f(int a){int v")?;
+    for i in 1..count {
+        let next = format!(in alloc; ",v{i}")?;
+        text.push_str(next.as_str())?;
+    }
+    text.push_str("; return a;}")?;
+    Ok(text)
+}
+
+#[test]
+fn variables_are_counted(rt: HostRuntime) -> Result<(), Fail> {
+    let alloc = rt.alloc();
+    for (count, want) in [(63, "2|unknown\n|"), (64, "3||llreve: A.c: 65 variables\n")] {
+        let text = with_variables(alloc, count)?;
+        let got = Run::on(text.as_str(), TWICE).told(alloc, &NAMES)?;
+        assert_eq!(rt; got.as_str(), want, "{count} variables");
     }
     Ok(())
 }
@@ -240,31 +457,190 @@ fn long_files_are_refused(rt: HostRuntime) -> Result<(), Fail> {
     Ok(())
 }
 
+/// The events of a trace, each a mark, a colon and the values there, and then the result.
+fn shown(alloc: Global, trace: &Trace) -> Result<String, AllocError> {
+    let mut text = String::new(alloc);
+    for event in trace.events.as_slice() {
+        let mark = format!(in alloc; "{}:", event.mark)?;
+        text.push_str(mark.as_str())?;
+        for value in event.values.as_slice() {
+            let value = format!(in alloc; "{value},")?;
+            text.push_str(value.as_str())?;
+        }
+        text.push(' ')?;
+    }
+    let result = format!(in alloc; "{}", trace.result)?;
+    text.push_str(result.as_str())?;
+    Ok(text)
+}
+
+/// What comes of at most 2,000 steps of the text's function.
+fn ran(alloc: Global, text: &str, inputs: &[i128]) -> Result<String, Fail> {
+    let Ok(func) = read_function(alloc, text.as_bytes()) else {
+        return Err("not read".into());
+    };
+    if func.params() as usize != inputs.len() {
+        return Err("other parameters".into());
+    }
+    match interpret(alloc, &func, inputs, 2_000)? {
+        Outcome::Returned(trace) => Ok(shown(alloc, &trace)?),
+        Outcome::Wide => Ok(String::from_str(alloc, "wide")?),
+        Outcome::CutOff => Ok(String::from_str(alloc, "cut off")?),
+    }
+}
+
+const SUM: &str =
+    "int f(int n){int i=0; int s=0; while(__mark(42) & (i<n)){s=s+i; i=i+1;} return s;}";
+
 #[test]
-fn functions_return_their_values(rt: HostRuntime) -> Result<(), Fail> {
-    let rows: [(&str, &[i128], Option<i128>); 7] = [
-        (DOUBLE, &[-4], Some(-8)),
-        (TWICE, &[21], Some(42)),
-        ("int f(){return 7-2-1;}", &[], Some(4)),
-        ("int f(int a,int b){return a-b*a+1;}", &[3, 5], Some(-11)),
-        ("int f(int a,int b){return b-a-b-a;}", &[3, 5], Some(-6)),
-        ("int f(int a){return a*a*a*a;}", &[33_554_432], None),
+fn functions_run_as_in_c(rt: HostRuntime) -> Result<(), Fail> {
+    let rows: [(&str, &[i128], &str); 20] = [
+        (DOUBLE, &[-4], "-8"),
+        ("int f(){return 7-2-1;}", &[], "4"),
+        ("int f(int a,int b){return b-a-b-a;}", &[3, 5], "-6"),
+        ("int f(int a){return a*a*a*a;}", &[33_554_432], "wide"),
+        ("int f(int a){return a*a*a*a-a*a*a*a;}", &[33_554_431], "0"),
+        (SUM, &[2], "42:2,0,0, 42:2,1,0, 42:2,2,1, 1"),
+        // An `else` belongs to the nearest `if`.
         (
-            "int f(int a){return a*a*a*a-a*a*a*a;}",
-            &[33_554_431],
-            Some(0),
+            "int f(int a){int r=0; if(a>0) if(a>1) r=1; else r=2; return r;}",
+            &[0],
+            "0",
+        ),
+        (
+            "int f(int a){int r=0; if(a>0){if(a>1) r=1;} else r=2; return r;}",
+            &[0],
+            "2",
+        ),
+        // A `continue` in a `for` goes on with its third part.
+        (
+            "int f(int n){int s=0; for(int i=0; __mark(7) & (i<n); i++){if(i==3) continue; s+=i;} return s;}",
+            &[5],
+            "7:5,0,0, 7:5,0,1, 7:5,1,2, 7:5,3,3, 7:5,3,4, 7:5,7,5, 7",
+        ),
+        (
+            "int f(int n){int s=0; int i=0; while(__mark(7) & (i<n)){if(i!=3) s=s+i; i=i+1;} return s;}",
+            &[5],
+            "7:5,0,0, 7:5,0,1, 7:5,1,2, 7:5,3,3, 7:5,3,4, 7:5,7,5, 7",
+        ),
+        (
+            "int f(void){int i=0; while(__mark(1) & (i<2)) i=i+1; return i;}",
+            &[],
+            "1:0, 1:1, 1:2, 2",
+        ),
+        // A loop without a mark has one of its own; the body of a `do` runs before its condition.
+        (
+            "int f(int n){int i=0; do i++; while(i<n); return i;}",
+            &[2],
+            "1000000:2,1, 1000000:2,2, 2",
+        ),
+        (
+            "int f(int n){int i=1; while(i<n) i++; return i;}",
+            &[-3],
+            "1000000:-3,1, 1",
+        ),
+        // An inner name hides an outer one, up to the end of its block.
+        (
+            "int f(int a){int x=a; {int x=1; x=5;} return x;}",
+            &[9],
+            "9",
+        ),
+        // A variable is 0 in its own initialiser, and each time that its declaration is reached.
+        ("int f(void){int x = x + 1; return x;}", &[], "1"),
+        (
+            "int f(int n){int s=0; while(n>0){int t; t=t+1; s=s+t; n--;} return s;}",
+            &[3],
+            "1000000:3,0, 1000000:2,1, 1000000:1,2, 1000000:0,3, 3",
+        ),
+        // A function that is left without a `return` returns 0.
+        ("int f(int a){a=7;}", &[1], "0"),
+        (
+            "int f(int n){while(n){__mark(3); if(n>2) break; n--;} return n;}",
+            &[2],
+            "3:2, 3:1, 0",
+        ),
+        (
+            "int f(int a,int b){return (a<b)+2*(a<=b)+4*(a>b)+8*(a>=b)+16*(a==b)+32*(a!=b);}",
+            &[2, 2],
+            "26",
+        ),
+        (
+            "int f(int a,int b){return (a&&b)+2*(a||b)+4*!a+8*(a?5:b)-(-b);}",
+            &[0, 3],
+            "33",
         ),
     ];
     for (text, inputs, want) in rows {
-        let Ok(func) = read_return(rt.alloc(), text.as_bytes()) else {
+        assert_eq!(rt;
+            ran(rt.alloc(), text, inputs)?.as_str(),
+            want,
+            "{text} at {inputs:?}"
+        );
+    }
+    Ok(())
+}
+
+#[test]
+fn copies_are_equal(rt: HostRuntime) -> Result<(), Fail> {
+    let alloc = rt.alloc();
+    let (Ok(first), Ok(second)) = (
+        read_function(alloc, SUM.as_bytes()),
+        read_function(alloc, TWICE.as_bytes()),
+    ) else {
+        return Err("not read".into());
+    };
+    let name = first.name().copy()?;
+    assert!(rt; name.text() == "f");
+    let scope = first.scope(alloc, Place::Entry)?;
+    assert!(rt; scope.as_slice() == [0].as_slice());
+    let copy = first.copy(alloc)?;
+    assert!(rt; copy.same(&first) && !copy.same(&second));
+    let Some(settings) = Settings::new(100, 64, 4000, 0) else {
+        return Err("no settings".into());
+    };
+    let Ok(subject) = Subject::new(first, second, settings) else {
+        return Err("other parameters".into());
+    };
+    let copy = subject.copy(alloc)?;
+    assert!(rt; copy.same(&subject));
+    assert!(rt; !copy.first().same(subject.second()));
+    Ok(())
+}
+
+/// The number of the function's statements, and the variables in scope at each mark that a run of at most 2,000 steps
+/// passes, each mark before a colon.
+fn scopes(alloc: Global, func: &Func, inputs: &[i128]) -> Result<String, AllocError>
+    requires { length inputs.now ≡ func.now.params }
+{
+    let mut text = format!(in alloc; "{} statements ", func.body().len())?;
+    if let Outcome::Returned(trace) = interpret(alloc, func, inputs, 2_000)? {
+        for event in trace.events.as_slice() {
+            let scope = func.scope(alloc, Place::Mark(event.mark))?;
+            let variables = format!(in alloc; "{}:{:?} ", event.mark, scope.as_slice())?;
+            text.push_str(variables.as_str())?;
+        }
+    }
+    Ok(text)
+}
+
+#[test]
+fn marks_have_their_scopes(rt: HostRuntime) -> Result<(), Fail> {
+    let rows = [
+        // Two declarations have a statement for each variable and one for each value.
+        (SUM, "6 statements 42:[0, 1, 2] 42:[0, 1, 2] "),
+        (
+            "int f(int a){{int b; __mark(1); int c; __mark(2);} __mark(3); do {int d; __mark(4);} while(__mark(5) & 0); return a;}",
+            "4 statements 1:[0, 1] 2:[0, 1, 2] 3:[0] 4:[0, 3] 5:[0] ",
+        ),
+    ];
+    for (text, want) in rows {
+        let Ok(func) = read_function(rt.alloc(), text.as_bytes()) else {
             return Err("not read".into());
         };
-        assert!(rt; func.params() as usize == inputs.len(), "{text}");
-        let told = match interpret(rt.alloc(), &func, inputs, 1)? {
-            Outcome::Returned(trace) => Some(trace.result),
-            Outcome::Wide | Outcome::CutOff => None,
-        };
-        assert_eq!(rt; told, want, "{text} at {inputs:?}");
+        if func.params() != 1 {
+            return Err("other parameters".into());
+        }
+        assert_eq!(rt; scopes(rt.alloc(), &func, &[1])?.as_str(), want, "{text}");
     }
     Ok(())
 }

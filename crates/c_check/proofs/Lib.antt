@@ -1,0 +1,13 @@
+pub mod Slots
+pub mod Marking
+pub mod Pushing
+pub mod RawFronts
+pub mod Going
+pub mod Meeting
+pub mod ForParts
+pub mod Making
+pub mod Forming
+pub mod Counting
+pub mod Naming
+pub mod Checking
+pub mod Answering

@@ -1,0 +1,94 @@
+-- What a file says at one place that a rule of scopes, jumps or marks may forbid, in the order of the source.
+use Rattle.std.specs.Prelude.{ℕ, Bool, true, false, List, [], ◌∷◌, ◌++◌, map, Option, Some, None}
+use Rattle.c_ast.specs.declared.func.Var.{Var}
+use Rattle.c_ast.specs.RawTree as raw
+use Rattle.c_ast.specs.RawTree.{RawExpression, RawCondition, RawDeclared, RawStatements, RawFunction}
+
+-- names, the newest first
+abbrev pub Names : Type 0
+Names = List (List ℕ)
+
+-- a name that is used, behind the names in scope there; a name that is declared, behind those declared before in its
+-- block; a `break` or `continue`, which stands in a loop or not; a mark; each but the mark with its line
+pub data Occurrence : Type 0 where
+  Use : Names → List ℕ → ℕ → Occurrence
+  Declaration : Names → List ℕ → ℕ → Occurrence
+  Jump : Bool → ℕ → Occurrence
+  Marked : ℕ → Occurrence
+
+-- those of an expression
+abbrev pub uses_in : Names → RawExpression → List Occurrence
+uses_in scope (raw.Num z) = []
+uses_in scope (raw.Named name line) = Use scope name line ∷ []
+uses_in scope (raw.Un op e) = uses_in scope e
+uses_in scope (raw.Bin op line e f) = uses_in scope e ++ uses_in scope f
+uses_in scope (raw.Cond c e f) = uses_in scope c ++ (uses_in scope e ++ uses_in scope f)
+
+abbrev pub uses_in_option : Names → Option RawExpression → List Occurrence
+uses_in_option scope None = []
+uses_in_option scope (Some e) = uses_in scope e
+
+abbrev pub marked_option : Option ℕ → List Occurrence
+marked_option None = []
+marked_option (Some mark) = Marked mark ∷ []
+
+-- those of a loop's condition
+abbrev pub uses_in_condition : Names → RawCondition → List Occurrence
+uses_in_condition scope cond = marked_option cond.mark ++ uses_in scope cond.cond
+
+abbrev pub uses_in_condition_option : Names → Option RawCondition → List Occurrence
+uses_in_condition_option scope None = []
+uses_in_condition_option scope (Some cond) = uses_in_condition scope cond
+
+-- the names that declarators add to others
+abbrev pub with_names : List RawDeclared → Names → Names
+with_names [] names = names
+with_names (declared ∷ declarators) names = with_names declarators (declared.var.name ∷ names)
+
+-- the names in scope behind the first part of a `for` head
+abbrev pub names_in_for : RawStatements → Names → Names
+names_in_for (raw.Declare declarators others) names = with_names declarators names
+names_in_for _ names = names
+
+-- Those of declarators: each name is in scope in its own initialiser. `scope` has the names in scope, and `block` those of
+-- the block.
+abbrev pub in_declarators : Names → Names → List RawDeclared → List Occurrence
+in_declarators scope block [] = []
+in_declarators scope block (declared ∷ declarators) =
+    Declaration block declared.var.name declared.var.line ∷ (uses_in_option (declared.var.name ∷ scope) declared.initialiser
+    ++ in_declarators (declared.var.name ∷ scope) (declared.var.name ∷ block) declarators)
+
+-- Those of statements, which stand in the body of a loop or not. A branch, a body and the head of a `for` are blocks of
+-- their own (6.8.4, 6.8.5). The third part of a `for` stands before its body, and the condition of a `do` behind it.
+abbrev pub occurrences : Names → Names → Bool → RawStatements → List Occurrence
+occurrences scope block in_loop raw.Nil = []
+occurrences scope block in_loop (raw.Declare declarators others) =
+    in_declarators scope block declarators ++ occurrences (with_names declarators scope) (with_names declarators block) in_loop others
+occurrences scope block in_loop (raw.Assign name line e others) =
+    Use scope name line ∷ (uses_in scope e ++ occurrences scope block in_loop others)
+occurrences scope block in_loop (raw.If c a others) =
+    uses_in scope c ++ (occurrences scope [] in_loop a ++ occurrences scope block in_loop others)
+occurrences scope block in_loop (raw.IfElse c a b others) =
+    uses_in scope c ++ (occurrences scope [] in_loop a ++ (occurrences scope [] in_loop b ++ occurrences scope block in_loop others))
+occurrences scope block in_loop (raw.While c body others) =
+    uses_in_condition scope c ++ (occurrences scope [] true body ++ occurrences scope block in_loop others)
+occurrences scope block in_loop (raw.Do body c others) =
+    occurrences scope [] true body ++ (uses_in_condition scope c ++ occurrences scope block in_loop others)
+occurrences scope block in_loop (raw.For start c step body others) =
+    occurrences scope [] in_loop start ++ (uses_in_condition_option (names_in_for start scope) c
+    ++ (occurrences (names_in_for start scope) [] in_loop step ++ (occurrences (names_in_for start scope) [] true body
+    ++ occurrences scope block in_loop others)))
+occurrences scope block in_loop (raw.Break line others) = Jump in_loop line ∷ occurrences scope block in_loop others
+occurrences scope block in_loop (raw.Continue line others) = Jump in_loop line ∷ occurrences scope block in_loop others
+occurrences scope block in_loop (raw.Return e others) = uses_in scope e ++ occurrences scope block in_loop others
+occurrences scope block in_loop (raw.Mark mark others) = Marked mark ∷ occurrences scope block in_loop others
+occurrences scope block in_loop (raw.Block a others) = occurrences scope [] in_loop a ++ occurrences scope block in_loop others
+occurrences scope block in_loop (raw.Empty others) = occurrences scope block in_loop others
+
+-- a parameter is declared as a variable without an initialiser is, in the outermost block
+abbrev pub plain : Var → RawDeclared
+plain var = record { var = var; initialiser = None }
+
+-- all of a function
+abbrev pub occurrences_of : RawFunction → List Occurrence
+occurrences_of f = occurrences [] [] false (raw.Declare (map plain f.params) f.body)

@@ -1,0 +1,173 @@
+-- Which statements of a checked function the statements of a file stand for (ISO C11, 6.2.1 for scopes, 6.8 for
+-- statements): names are variables' numbers, loops have one form, and each turn of a loop passes a mark.
+use Rattle.std.specs.Prelude.{◌≡◌, ℕ, suc, ◌+◌, Bool, true, false, if◌then◌else◌, List, [], ◌∷◌, length, Option, Some, None, ℤ, pos, option_map, find, bytes_eq}
+use Rattle.c_ast.specs.declared.expr.UnOp.{UnOp}
+use Rattle.c_ast.specs.declared.expr.BinOp.{BinOp}
+use Rattle.c_ast.specs.declared.func.Var.{Var}
+use Rattle.c_ast.specs.RawTree as raw
+use Rattle.c_ast.specs.RawTree.{RawExpression, RawCondition, RawDeclared, RawStatements}
+use Rattle.c_ast.specs.Tree as tree
+use Rattle.c_ast.specs.Tree.{Expression, Statements}
+use Rattle.c_check.specs.Contents.{declared_in, loops_in}
+
+-- a variable in scope: its name and its number
+pub record Binding : Type 0 where
+  pub name : List ℕ
+  pub number : ℕ
+
+-- the variables in scope, the one declared last first, which hides those of its name behind it
+abbrev pub Bindings : Type 0
+Bindings = List Binding
+
+abbrev pub binding : Var → ℕ → Binding
+binding var number = record { name = var.name; number = number }
+
+-- the number of the variable that a name stands for
+abbrev pub number_of : Bindings → List ℕ → Option ℕ
+number_of scope name = option_map (λ found. found.number) (find (λ other. bytes_eq name other.name) scope)
+
+-- The expression is this one, its names being those of variables in scope.
+pub data ResolvesExpression (scope : Bindings) : RawExpression → Expression → Type 0 where
+  constant : (z : ℤ) → ResolvesExpression scope (raw.Num z) (tree.Num z)
+  variable : (name : List ℕ) (line number : ℕ) → number_of scope name ≡ Some number
+      → ResolvesExpression scope (raw.Named name line) (tree.Var number)
+  unary : (op : UnOp) (e : RawExpression) (made : Expression) → ResolvesExpression scope e made
+      → ResolvesExpression scope (raw.Un op e) (tree.Un op made)
+  binary : (op : BinOp) (line : ℕ) (e f : RawExpression) (first second : Expression) → ResolvesExpression scope e first
+      → ResolvesExpression scope f second → ResolvesExpression scope (raw.Bin op line e f) (tree.Bin op first second)
+  conditional : (c e f : RawExpression) (cond first second : Expression) → ResolvesExpression scope c cond
+      → ResolvesExpression scope e first → ResolvesExpression scope f second
+      → ResolvesExpression scope (raw.Cond c e f) (tree.Cond cond first second)
+
+-- how many variables and how many loops stand before a place of the source
+pub record Counts : Type 0 where
+  pub vars : ℕ
+  pub loops : ℕ
+
+abbrev pub one_variable_more : Counts → Counts
+one_variable_more n = record { vars = suc n.vars; loops = n.loops }
+
+abbrev pub one_loop_more : Counts → Counts
+one_loop_more n = record { vars = n.vars; loops = suc n.loops }
+
+-- how many stand before the place behind these statements
+abbrev pub behind : RawStatements → Counts → Counts
+behind stmts n = record { vars = n.vars + length (declared_in stmts); loops = n.loops + loops_in stmts }
+
+-- ---- marks of loops
+
+-- The body of a loop is a mark statement, or a block whose first item is one.
+abbrev pub begins_with_mark : RawStatements → Bool
+begins_with_mark (raw.Mark mark others) = true
+begins_with_mark (raw.Block (raw.Mark mark inner) others) = true
+begins_with_mark _ = false
+
+-- the first of the numbers that loops without a mark of their own get
+abbrev pub first_automatic : ℕ
+first_automatic = 1000000
+
+-- the mark that a loop passes before its condition: the one named there; where none is, and its body does not begin
+-- with a mark, an automatic one by the loop's number
+abbrev pub loop_mark : Option ℕ → RawStatements → ℕ → Option ℕ
+loop_mark (Some mark) body loop = Some mark
+loop_mark None body loop = if begins_with_mark body then None else Some (first_automatic + loop)
+
+abbrev pub named_mark : Option RawCondition → Option ℕ
+named_mark None = None
+named_mark (Some cond) = cond.mark
+
+-- The condition of a `for`, which is 1 where none stands (6.8.5.3).
+pub data ResolvesCondition (scope : Bindings) : Option RawCondition → Expression → Type 0 where
+  left_out : ResolvesCondition scope None (tree.Num (pos 1))
+  stands : (cond : RawCondition) (made : Expression) → ResolvesExpression scope cond.cond made
+      → ResolvesCondition scope (Some cond) made
+
+-- ---- statements
+
+-- the variables in scope behind declarators, of which the first has this number
+abbrev pub with_declared : List RawDeclared → ℕ → Bindings → Bindings
+with_declared [] number scope = scope
+with_declared (declared ∷ declarators) number scope = with_declared declarators (suc number) (binding declared.var number ∷ scope)
+
+-- the variables in scope behind the first part of a `for` head
+abbrev pub scope_in_for : RawStatements → ℕ → Bindings → Bindings
+scope_in_for (raw.Declare declarators others) number scope = with_declared declarators number scope
+scope_in_for _ number scope = scope
+
+-- the statements of the first list, then the second list
+abbrev pub followed_by : Statements → Statements → Statements
+followed_by tree.Nil behind = behind
+followed_by (tree.Set x e others) behind = tree.Set x e (followed_by others behind)
+followed_by (tree.If e a b others) behind = tree.If e a b (followed_by others behind)
+followed_by (tree.Loop mark cond body step test_first others) behind = tree.Loop mark cond body step test_first (followed_by others behind)
+followed_by (tree.Break others) behind = tree.Break (followed_by others behind)
+followed_by (tree.Continue others) behind = tree.Continue (followed_by others behind)
+followed_by (tree.Return e others) behind = tree.Return e (followed_by others behind)
+followed_by (tree.Mark mark others) behind = tree.Mark mark (followed_by others behind)
+followed_by (tree.Block a others) behind = tree.Block a (followed_by others behind)
+
+-- The statements are these, where so many variables and loops stand before them. What is declared in a list is in scope
+-- to its end.
+pub data Resolves : Bindings → Counts → RawStatements → Statements → Type 0 where
+  none : (scope : Bindings) (n : Counts) → Resolves scope n raw.Nil tree.Nil
+  -- 6.7: a declarator's variable becomes 0, and then the value of its initialiser, in which it is in scope.
+  declared : (scope : Bindings) (n : Counts) (others : RawStatements) (made : Statements) → Resolves scope n others made
+      → Resolves scope n (raw.Declare [] others) made
+  declares : (scope : Bindings) (n : Counts) (var : Var) (declarators : List RawDeclared) (others : RawStatements)
+      (made : Statements) → Resolves (binding var n.vars ∷ scope) (one_variable_more n) (raw.Declare declarators others) made
+      → Resolves scope n (raw.Declare (record { var = var; initialiser = None } ∷ declarators) others)
+      (tree.Set n.vars (tree.Num (pos 0)) made)
+  initialises : (scope : Bindings) (n : Counts) (var : Var) (e : RawExpression) (declarators : List RawDeclared)
+      (others : RawStatements) (value : Expression) (made : Statements)
+      → ResolvesExpression (binding var n.vars ∷ scope) e value
+      → Resolves (binding var n.vars ∷ scope) (one_variable_more n) (raw.Declare declarators others) made
+      → Resolves scope n (raw.Declare (record { var = var; initialiser = Some e } ∷ declarators) others)
+      (tree.Set n.vars (tree.Num (pos 0)) (tree.Set n.vars value made))
+  -- 6.5.16
+  assigns : (scope : Bindings) (n : Counts) (name : List ℕ) (line number : ℕ) (e : RawExpression) (others : RawStatements)
+      (value : Expression) (made : Statements) → number_of scope name ≡ Some number → ResolvesExpression scope e value
+      → Resolves scope n others made → Resolves scope n (raw.Assign name line e others) (tree.Set number value made)
+  -- 6.8.4.1
+  branches : (scope : Bindings) (n : Counts) (c : RawExpression) (a others : RawStatements) (cond : Expression)
+      (first made : Statements) → ResolvesExpression scope c cond → Resolves scope n a first
+      → Resolves scope (behind a n) others made
+      → Resolves scope n (raw.If c a others) (tree.If cond first tree.Nil made)
+  chooses : (scope : Bindings) (n : Counts) (c : RawExpression) (a b others : RawStatements) (cond : Expression)
+      (first second made : Statements) → ResolvesExpression scope c cond → Resolves scope n a first
+      → Resolves scope (behind a n) b second → Resolves scope (behind b (behind a n)) others made
+      → Resolves scope n (raw.IfElse c a b others) (tree.If cond first second made)
+  -- 6.8.5.1
+  while_loop : (scope : Bindings) (n : Counts) (c : RawCondition) (a others : RawStatements) (cond : Expression)
+      (body made : Statements) → ResolvesExpression scope c.cond cond → Resolves scope (one_loop_more n) a body
+      → Resolves scope (behind a (one_loop_more n)) others made
+      → Resolves scope n (raw.While c a others) (tree.Loop (loop_mark c.mark a n.loops) cond body tree.Nil true made)
+  -- 6.8.5.2: the variables of the body are not in scope in the condition.
+  do_loop : (scope : Bindings) (n : Counts) (a : RawStatements) (c : RawCondition) (others : RawStatements)
+      (cond : Expression) (body made : Statements) → Resolves scope (one_loop_more n) a body
+      → ResolvesExpression scope c.cond cond → Resolves scope (behind a (one_loop_more n)) others made
+      → Resolves scope n (raw.Do a c others) (tree.Loop (loop_mark c.mark a n.loops) cond body tree.Nil false made)
+  -- 6.8.5.3: what the head declares is in scope in the rest of the loop, which is a block.
+  for_loop : (scope : Bindings) (n : Counts) (start : RawStatements) (c : Option RawCondition) (step a others : RawStatements)
+      (cond : Expression) (first next body made : Statements) → Resolves scope (one_loop_more n) start first
+      → ResolvesCondition (scope_in_for start n.vars scope) c cond
+      → Resolves (scope_in_for start n.vars scope) (behind start (one_loop_more n)) step next
+      → Resolves (scope_in_for start n.vars scope) (behind step (behind start (one_loop_more n))) a body
+      → Resolves scope (behind a (behind step (behind start (one_loop_more n)))) others made
+      → Resolves scope n (raw.For start c step a others)
+      (tree.Block (followed_by first (tree.Loop (loop_mark (named_mark c) a n.loops) cond body next true tree.Nil)) made)
+  -- 6.8.6
+  breaks : (scope : Bindings) (n : Counts) (line : ℕ) (others : RawStatements) (made : Statements)
+      → Resolves scope n others made → Resolves scope n (raw.Break line others) (tree.Break made)
+  continues : (scope : Bindings) (n : Counts) (line : ℕ) (others : RawStatements) (made : Statements)
+      → Resolves scope n others made → Resolves scope n (raw.Continue line others) (tree.Continue made)
+  returns : (scope : Bindings) (n : Counts) (e : RawExpression) (others : RawStatements) (value : Expression)
+      (made : Statements) → ResolvesExpression scope e value → Resolves scope n others made
+      → Resolves scope n (raw.Return e others) (tree.Return value made)
+  marks : (scope : Bindings) (n : Counts) (mark : ℕ) (others : RawStatements) (made : Statements)
+      → Resolves scope n others made → Resolves scope n (raw.Mark mark others) (tree.Mark mark made)
+  -- 6.8.2
+  block : (scope : Bindings) (n : Counts) (a others : RawStatements) (inner made : Statements) → Resolves scope n a inner
+      → Resolves scope (behind a n) others made → Resolves scope n (raw.Block a others) (tree.Block inner made)
+  -- 6.8.3
+  empty : (scope : Bindings) (n : Counts) (others : RawStatements) (made : Statements) → Resolves scope n others made
+      → Resolves scope n (raw.Empty others) made

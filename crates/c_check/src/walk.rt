@@ -1,0 +1,480 @@
+//! Goes over statements in the order of the source. The first fault ends it.
+ghost use Rattle.std.specs.Prelude.{◌≡◌, ◌<◌, ◌+◌, ◌^◌, Ok, Bool, List, MatchResult, IfErr, OnOk, option_map};
+ghost use Rattle.c_ast.specs.RawTree as raw;
+ghost use Rattle.c_ast.specs.RawView.{raw_expression_of, raw_condition_of, raw_declared_of, raw_one, raw_optional, raw_branches, raw_put_in_front, raw_statements_of, raw_function_of};
+ghost use Rattle.c_ast.specs.declared.stmt.Stmt.{Loop};
+ghost use Rattle.c_ast.specs.View.{expression_of, put_in_front, statements_of};
+ghost use Rattle.c_check.specs.declared.fault.CheckFault.TheVariants as fault;
+ghost use Rattle.c_check.specs.Resolves.{first_automatic, begins_with_mark, loop_mark, named_mark};
+ghost use Rattle.c_check.specs.Table.{scope_of};
+ghost use Rattle.c_check.specs.Resolving.{variable_in, expression_in, initial_value, condition_at, condition_option_at, with_condition, with_front, joined_to, made, closed, entered, statements_at, parameters_at, Fails, Puts, Pushes, FailsIn, Declares, FailsDeclaring};
+ghost use Rattle.std.specs.Prelude.{ℕ, [], ◌∷◌, ◌++◌, Some, None, map, true};
+ghost use Rattle.c_check.specs.Occurrences.{Jump};
+ghost use Rattle.c_check.specs.Faults.{fault_of};
+
+use crate::CheckFault;
+use crate::marks::FIRST_AUTOMATIC;
+use crate::resolver::Resolver;
+use crate::table::Table;
+use c_ast::{Expr, Name, RawCond, RawDeclarator, RawExpr, RawStmt, Stmt, Var};
+use sqlite_items::{Boxed, Items};
+use std::alloc::Global;
+
+fn variable(table: &Table, name: &Name, line: u32) -> Result<u32, CheckFault>
+    ensures { MatchResult result
+        (λ number. variable_in (scope_of table.now) name.now line ≡ Ok number)
+        (Fails (variable_in (scope_of table.now) name.now line)) }
+{
+    match table.number_of(name) {
+        Some(number) => Ok(number),
+        None => {
+            let name = name.copy()?;
+            Err(CheckFault::Undeclared { name, line })
+        }
+    }
+}
+
+fn expression(alloc: Global, table: &Table, expr: &RawExpr) -> Result<Expr, CheckFault>
+    ensures { MatchResult result
+        (λ value. expression_in (scope_of table.now) (raw_expression_of expr.now) ≡ Ok (expression_of value))
+        (Fails (expression_in (scope_of table.now) (raw_expression_of expr.now))) }
+{
+    match expr {
+        RawExpr::Num(constant) => Ok(Expr::Num(*constant)),
+        RawExpr::Var(name, line) => {
+            let number = variable(table, name, *line)?;
+            Ok(Expr::Var(number))
+        }
+        RawExpr::Un(op, operand) => {
+            let operand = expression(alloc, table, operand.get())?;
+            Ok(Expr::Un(*op, Boxed::new(alloc, operand)?))
+        }
+        RawExpr::Bin(op, _, left, right) => {
+            let left = expression(alloc, table, left.get())?;
+            let right = expression(alloc, table, right.get())?;
+            Ok(Expr::Bin(*op, Boxed::new(alloc, left)?, Boxed::new(alloc, right)?))
+        }
+        RawExpr::Cond(cond, first, second) => {
+            let cond = expression(alloc, table, cond.get())?;
+            let first = expression(alloc, table, first.get())?;
+            let second = expression(alloc, table, second.get())?;
+            let cond = Boxed::new(alloc, cond)?;
+            let first = Boxed::new(alloc, first)?;
+            let second = Boxed::new(alloc, second)?;
+            Ok(Expr::Cond(cond, first, second))
+        }
+    }
+}
+
+/// A loop's condition with the mark that it names.
+#[derive(Drop)]
+struct LoopTest {
+    mark: Option<u32>,
+    cond: Expr,
+}
+
+fn condition(alloc: Global, at: &mut Resolver, raw: &RawCond) -> Result<LoopTest, CheckFault>
+    ensures { MatchResult result
+        (λ found. (condition_at at.old (raw_condition_of raw.now) ≡ Ok (with_condition at.new (expression_of found.cond))) × (found.mark ≡ raw.now.mark))
+        (Fails (condition_at at.old (raw_condition_of raw.now))) }
+{
+    match raw.mark {
+        None => {
+            let cond = expression(alloc, &at.table, &raw.cond)?;
+            Ok(LoopTest { mark: None, cond })
+        }
+        Some(mark) => {
+            let mark = at.mark(mark)?;
+            let cond = expression(alloc, &at.table, &raw.cond)?;
+            Ok(LoopTest {
+                mark: Some(mark),
+                cond,
+            })
+        }
+    }
+}
+
+fn condition_option(
+    alloc: Global,
+    at: &mut Resolver,
+    raw: &Option<RawCond>,
+) -> Result<LoopTest, CheckFault>
+    ensures { MatchResult result
+        (λ found. (condition_option_at at.old (option_map raw_condition_of raw.now) ≡ Ok (with_condition at.new (expression_of found.cond))) × (found.mark ≡ named_mark (option_map raw_condition_of raw.now)))
+        (Fails (condition_option_at at.old (option_map raw_condition_of raw.now))) }
+{
+    match raw {
+        None => Ok(LoopTest {
+            mark: None,
+            cond: Expr::Num(1),
+        }),
+        Some(raw) => {
+            let found = condition(alloc, at, raw)?;
+            Ok(found)
+        }
+    }
+}
+
+fn initial_value(
+    alloc: Global,
+    table: &Table,
+    raw: &Option<RawExpr>,
+) -> Result<Option<Expr>, CheckFault>
+    ensures { MatchResult result
+        (λ value. initial_value (scope_of table.now) (option_map raw_expression_of raw.now) ≡ Ok (option_map expression_of value))
+        (Fails (initial_value (scope_of table.now) (option_map raw_expression_of raw.now))) }
+{
+    match raw {
+        None => Ok(None),
+        Some(raw) => {
+            let value = expression(alloc, table, raw)?;
+            Ok(Some(value))
+        }
+    }
+}
+
+/// Whether the body of a loop is a mark statement, or a block that begins with one.
+fn begins_with_mark(body: &RawStmt) -> bool
+    ensures { result ≡ begins_with_mark (raw_one (raw_put_in_front body.now)) }
+{
+    match body {
+        RawStmt::Mark(_) => true,
+        RawStmt::Block(items) => match items.as_slice() {
+            [RawStmt::Mark(_), ..] => true,
+            _ => false,
+        },
+        _ => false,
+    }
+}
+
+/// The mark of a loop behind so many others.
+fn loop_mark(named: Option<u32>, body: &RawStmt, before: u32) -> Option<u32>
+    requires { first_automatic + before < 2 ^ 32 }
+    ensures { result ≡ loop_mark named (raw_one (raw_put_in_front body.now)) before }
+{
+    match named {
+        Some(mark) => Some(mark),
+        None => {
+            if begins_with_mark(body) {
+                None
+            } else {
+                Some(FIRST_AUTOMATIC + before)
+            }
+        }
+    }
+}
+
+/// A `break` or `continue` stands here.
+fn jump(at: &Resolver, in_loop: bool, line: u32) -> Result<(), CheckFault>
+    ensures { MatchResult result
+        (λ _. fault_of at.now.marks (Jump in_loop line) ≡ None)
+        (λ first. fault_of at.now.marks (Jump in_loop line) ≡ Some first) }
+{
+    if in_loop {
+        Ok(())
+    } else {
+        Err(CheckFault::Outside { line })
+    }
+}
+
+/// Puts one more statement behind others.
+fn put(made: &mut Items<Stmt>, stmt: Stmt) -> Result<(), CheckFault>
+    ensures put { OnOk result (made.new ≡ made.old ++ stmt ∷ []) }
+    ensures memory { IfErr result (λ first. first ≡ fault.Memory) }
+{
+    made.push(stmt)?;
+    Ok(())
+}
+
+/// A loop that tests first.
+fn looped(mark: Option<u32>, cond: Expr, body: Items<Stmt>, step: Items<Stmt>) -> Stmt
+    ensures { result ≡ Loop mark cond body step true }
+{
+    Stmt::Loop {
+        mark,
+        cond,
+        body,
+        step,
+        test_first: true,
+    }
+}
+
+fn declarator(
+    alloc: Global,
+    at: &mut Resolver,
+    declarator: &RawDeclarator,
+    made: &mut Items<Stmt>,
+) -> Result<(), CheckFault>
+    ensures { MatchResult result
+        (λ _. Declares (raw_declared_of declarator.now) at.old at.new made.old made.new)
+        (λ first. FailsDeclaring (raw_declared_of declarator.now) at.old first) }
+{
+    let number = at.declare(alloc, &declarator.var)?;
+    let value = initial_value(alloc, &at.table, &declarator.initialiser)?;
+    put(made, Stmt::Set(number, Expr::Num(0)))?;
+    if let Some(value) = value {
+        put(made, Stmt::Set(number, value))?;
+    }
+    Ok(())
+}
+
+fn declarators(
+    alloc: Global,
+    at: &mut Resolver,
+    declarators: &[RawDeclarator],
+    made: &mut Items<Stmt>,
+) -> Result<(), CheckFault>
+    ensures { MatchResult result
+        (λ _. (in_loop : Bool) → Pushes in_loop (raw.Declare (map raw_declared_of declarators.now)) at.old at.new made.old made.new)
+        (λ first. (in_loop : Bool) → FailsIn in_loop (raw.Declare (map raw_declared_of declarators.now)) at.old first) }
+{
+    for declared in declarators {
+        declarator(alloc, at, declared, made)?;
+    }
+    Ok(())
+}
+
+fn assignment(
+    alloc: Global,
+    at: &Resolver,
+    name: &Name,
+    line: u32,
+    value: &RawExpr,
+) -> Result<Stmt, CheckFault>
+    ensures { MatchResult result
+        (λ stmt. (in_loop : Bool) → Puts in_loop (raw.Assign name.now line (raw_expression_of value.now)) at.now at.now stmt)
+        (λ first. (in_loop : Bool) → FailsIn in_loop (raw.Assign name.now line (raw_expression_of value.now)) at.now first) }
+{
+    let number = variable(&at.table, name, line)?;
+    let value = expression(alloc, &at.table, value)?;
+    Ok(Stmt::Set(number, value))
+}
+
+#[cycle(walk)]
+pub(crate) fn items(
+    alloc: Global,
+    at: &mut Resolver,
+    in_loop: bool,
+    stmts: &[RawStmt],
+) -> Result<Items<Stmt>, CheckFault>
+    ensures { MatchResult result
+        (λ made_of. statements_at at.old in_loop (raw_statements_of stmts.now) ≡ Ok (made at.new (statements_of made_of)))
+        (Fails (statements_at at.old in_loop (raw_statements_of stmts.now))) }
+{
+    let mut made = Items::new(alloc);
+    for stmt in stmts {
+        item(alloc, at, in_loop, stmt, &mut made)?;
+    }
+    Ok(made)
+}
+
+/// One statement, in no block of its own.
+#[cycle(walk)]
+fn one(
+    alloc: Global,
+    at: &mut Resolver,
+    in_loop: bool,
+    stmt: &RawStmt,
+) -> Result<Items<Stmt>, CheckFault>
+    ensures { MatchResult result
+        (λ made_of. statements_at at.old in_loop (raw_one (raw_put_in_front stmt.now)) ≡ Ok (made at.new (statements_of made_of)))
+        (Fails (statements_at at.old in_loop (raw_one (raw_put_in_front stmt.now)))) }
+{
+    let mut made = Items::new(alloc);
+    item(alloc, at, in_loop, stmt, &mut made)?;
+    Ok(made)
+}
+
+/// One statement or none, in no block of its own.
+#[cycle(walk)]
+fn one_or_none(
+    alloc: Global,
+    at: &mut Resolver,
+    in_loop: bool,
+    stmt: &Option<Boxed<RawStmt>>,
+) -> Result<Items<Stmt>, CheckFault>
+    ensures { MatchResult result
+        (λ made_of. statements_at at.old in_loop (raw_optional (option_map raw_put_in_front stmt.now)) ≡ Ok (made at.new (statements_of made_of)))
+        (Fails (statements_at at.old in_loop (raw_optional (option_map raw_put_in_front stmt.now)))) }
+{
+    match stmt {
+        None => Ok(Items::new(alloc)),
+        Some(stmt) => {
+            let made = one(alloc, at, in_loop, stmt.get())?;
+            Ok(made)
+        }
+    }
+}
+
+/// A branch, or the body of a loop: a block of its own.
+#[cycle(walk)]
+fn block(
+    alloc: Global,
+    at: &mut Resolver,
+    in_loop: bool,
+    stmt: &RawStmt,
+) -> Result<Items<Stmt>, CheckFault>
+    ensures { MatchResult result
+        (λ made_of. closed (statements_at (entered at.old) in_loop (raw_one (raw_put_in_front stmt.now))) ≡ Ok (made at.new (statements_of made_of)))
+        (Fails (closed (statements_at (entered at.old) in_loop (raw_one (raw_put_in_front stmt.now))))) }
+{
+    at.enter(alloc)?;
+    let made = one(alloc, at, in_loop, stmt)?;
+    at.leave(alloc);
+    Ok(made)
+}
+
+/// A branch after `else` or the third part of a `for` head, where there is one: a block of its own.
+#[cycle(walk)]
+fn block_or_none(
+    alloc: Global,
+    at: &mut Resolver,
+    in_loop: bool,
+    stmt: &Option<Boxed<RawStmt>>,
+) -> Result<Items<Stmt>, CheckFault>
+    ensures { MatchResult result
+        (λ made_of. closed (statements_at (entered at.old) in_loop (raw_optional (option_map raw_put_in_front stmt.now))) ≡ Ok (made at.new (statements_of made_of)))
+        (Fails (closed (statements_at (entered at.old) in_loop (raw_optional (option_map raw_put_in_front stmt.now))))) }
+{
+    at.enter(alloc)?;
+    let made = one_or_none(alloc, at, in_loop, stmt)?;
+    at.leave(alloc);
+    Ok(made)
+}
+
+#[cycle(walk)]
+fn compound(
+    alloc: Global,
+    at: &mut Resolver,
+    in_loop: bool,
+    stmts: &[RawStmt],
+) -> Result<Stmt, CheckFault>
+    ensures { MatchResult result
+        (λ stmt. Puts in_loop (raw.Block (raw_statements_of stmts.now)) at.old at.new stmt)
+        (FailsIn in_loop (raw.Block (raw_statements_of stmts.now)) at.old) }
+{
+    at.enter(alloc)?;
+    let made = items(alloc, at, in_loop, stmts)?;
+    at.leave(alloc);
+    Ok(Stmt::Block(made))
+}
+
+#[cycle(walk)]
+fn while_loop(
+    alloc: Global,
+    at: &mut Resolver,
+    in_loop: bool,
+    cond: &RawCond,
+    body: &RawStmt,
+) -> Result<Stmt, CheckFault>
+    ensures { MatchResult result
+        (λ stmt. Puts in_loop (raw.While (raw_condition_of cond.now) (raw_one (raw_put_in_front body.now))) at.old at.new stmt)
+        (FailsIn in_loop (raw.While (raw_condition_of cond.now) (raw_one (raw_put_in_front body.now))) at.old) }
+{
+    let before = at.begin_loop()?;
+    let found = condition(alloc, at, cond)?;
+    let made = block(alloc, at, true, body)?;
+    Ok(Stmt::Loop {
+        mark: loop_mark(found.mark, body, before),
+        cond: found.cond,
+        body: made,
+        step: Items::new(alloc),
+        test_first: true,
+    })
+}
+
+#[cycle(walk)]
+fn do_loop(
+    alloc: Global,
+    at: &mut Resolver,
+    in_loop: bool,
+    body: &RawStmt,
+    cond: &RawCond,
+) -> Result<Stmt, CheckFault>
+    ensures { MatchResult result
+        (λ stmt. Puts in_loop (raw.Do (raw_one (raw_put_in_front body.now)) (raw_condition_of cond.now)) at.old at.new stmt)
+        (FailsIn in_loop (raw.Do (raw_one (raw_put_in_front body.now)) (raw_condition_of cond.now)) at.old) }
+{
+    let before = at.begin_loop()?;
+    let made = block(alloc, at, true, body)?;
+    let found = condition(alloc, at, cond)?;
+    Ok(Stmt::Loop {
+        mark: loop_mark(found.mark, body, before),
+        cond: found.cond,
+        body: made,
+        step: Items::new(alloc),
+        test_first: false,
+    })
+}
+
+/// Goes over a statement, and puts what it stands for behind others.
+#[cycle(walk)]
+fn item(
+    alloc: Global,
+    at: &mut Resolver,
+    in_loop: bool,
+    stmt: &RawStmt,
+    made: &mut Items<Stmt>,
+) -> Result<(), CheckFault>
+    ensures { MatchResult result
+        (λ _. Pushes in_loop (raw_put_in_front stmt.now) at.old at.new made.old made.new)
+        (FailsIn in_loop (raw_put_in_front stmt.now) at.old) }
+{
+    match stmt {
+        RawStmt::Declare(list) => {
+            declarators(alloc, at, list.as_slice(), made)?;
+            Ok(())
+        }
+        RawStmt::Assign(name, line, value) => {
+            let found = assignment(alloc, at, name, *line, value)?;
+            put(made, found)
+        }
+        RawStmt::If(cond, first, second) => {
+            let cond = expression(alloc, &at.table, cond)?;
+            let first = block(alloc, at, in_loop, first.get())?;
+            let second = block_or_none(alloc, at, in_loop, second)?;
+            put(made, Stmt::If(cond, first, second))
+        }
+        RawStmt::While(cond, body) => {
+            let found = while_loop(alloc, at, in_loop, cond, body.get())?;
+            put(made, found)
+        }
+        RawStmt::Do(body, cond) => {
+            let found = do_loop(alloc, at, in_loop, body.get(), cond)?;
+            put(made, found)
+        }
+        RawStmt::For(start, cond, next, body) => {
+            let before = at.begin_loop()?;
+            at.enter(alloc)?;
+            let mut head = one_or_none(alloc, at, in_loop, start)?;
+            let found = condition_option(alloc, at, cond)?;
+            let next = block_or_none(alloc, at, in_loop, next)?;
+            let inner = block(alloc, at, true, body.get())?;
+            let mark = loop_mark(found.mark, body.get(), before);
+            put(&mut head, looped(mark, found.cond, inner, next))?;
+            at.leave(alloc);
+            put(made, Stmt::Block(head))
+        }
+        RawStmt::Break(line) => {
+            jump(at, in_loop, *line)?;
+            put(made, Stmt::Break)
+        }
+        RawStmt::Continue(line) => {
+            jump(at, in_loop, *line)?;
+            put(made, Stmt::Continue)
+        }
+        RawStmt::Return(value) => {
+            let value = expression(alloc, &at.table, value)?;
+            put(made, Stmt::Return(value))
+        }
+        RawStmt::Mark(mark) => {
+            let mark = at.mark(*mark)?;
+            put(made, Stmt::Mark(mark))
+        }
+        RawStmt::Block(list) => {
+            let found = compound(alloc, at, in_loop, list.as_slice())?;
+            put(made, found)
+        }
+        RawStmt::Empty => Ok(()),
+    }
+}

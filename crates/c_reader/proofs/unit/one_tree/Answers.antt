@@ -1,0 +1,5 @@
+use Rattle.c_reader.proofs.UnitCompleteness.{unit-one}
+use Rattle.c_reader.proofs.unit.one_tree.Goals as goal
+
+pub returns : goal.returns
+returns c = unit-one

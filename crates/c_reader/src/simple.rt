@@ -1,0 +1,206 @@
+//! Assignments (ISO C11, 6.5.16), marks and conditions, by recursive descent. `room` is the greatest depth.
+ghost use Rattle.std.specs.Prelude.{◌≡◌, IfOk};
+ghost use Rattle.c_ast.specs.RawTree.{Bin, Named};
+ghost use Rattle.c_ast.specs.RawView.{raw_expression_of, raw_condition_of, raw_put_in_front};
+ghost use Rattle.c_reader.specs.Gives.{Gives};
+ghost use Rattle.c_reader.specs.Faults.{Refuses};
+ghost use Rattle.c_reader.specs.Statements.{update_of, step_of, updated};
+ghost use Rattle.c_reader.specs.ReadStatements.{step_at, change_at, simple_at, constant_at, mark_at, condition_at, start_at};
+
+use crate::ReadFault;
+use crate::declaration::{begins_type, name_at, read_declaration, read_shallow};
+use crate::sign::{Sign, behind_sign, expect, is_sign};
+use c_ast::{BinOp, Name, RawCond, RawExpr, RawStmt};
+use c_tokens::{Kind, Token};
+use sqlite_items::Boxed;
+use std::alloc::{AllocError, Global};
+
+// The operation of `+=`, `-=` or `*=`.
+fn update_of(kind: &Kind) -> Option<BinOp>
+    ensures { result ≡ update_of kind.now }
+{
+    match kind {
+        Kind::PlusAssign => Some(BinOp::Add),
+        Kind::MinusAssign => Some(BinOp::Sub),
+        Kind::StarAssign => Some(BinOp::Mul),
+        _ => None,
+    }
+}
+
+// The operation of `++` or `--`.
+fn step_of(kind: &Kind) -> Option<BinOp>
+    ensures { result ≡ step_of kind.now }
+{
+    match kind {
+        Kind::PlusPlus => Some(BinOp::Add),
+        Kind::MinusMinus => Some(BinOp::Sub),
+        _ => None,
+    }
+}
+
+// An operation of a variable and an expression is assigned to the variable.
+fn updated(
+    alloc: Global,
+    name: &Name,
+    line: u32,
+    op: BinOp,
+    operator_line: u32,
+    expr: RawExpr,
+) -> Result<RawStmt, AllocError>
+    ensures { IfOk result (λ stmt.
+        raw_put_in_front stmt ≡ updated name.now line op operator_line (raw_expression_of expr)) }
+{
+    let left = Boxed::new(alloc, RawExpr::Var(name.copy()?, line))?;
+    let right = Boxed::new(alloc, expr)?;
+    let value = RawExpr::Bin(op, operator_line, left, right);
+    Ok(RawStmt::Assign(name.copy()?, line, value))
+}
+
+// `x++` and its like, where there is room.
+#[tactic(auto, unfolding(crate::specs::ReadStatements::step_at))]
+fn read_step<'a>(
+    alloc: Global,
+    room: u32,
+    name: &Name,
+    line: u32,
+    op: BinOp,
+    operator_line: u32,
+    tokens: &'a [Token],
+) -> Result<(RawStmt, &'a [Token]), ReadFault>
+    ensures { Gives (λ x. (raw_put_in_front x.0, x.1.now)) result
+        (step_at room name.now line op operator_line tokens.now) }
+{
+    if room < 2 {
+        return Err(ReadFault::Grammar);
+    }
+    let stmt = updated(alloc, name, line, op, operator_line, RawExpr::Num(1))?;
+    Ok((stmt, tokens))
+}
+
+// The rest of an assignment behind its name.
+#[tactic(auto, unfolding(crate::specs::ReadStatements::change_at))]
+fn read_change<'a>(
+    alloc: Global,
+    room: u32,
+    name: &Name,
+    line: u32,
+    tokens: &'a [Token],
+) -> Result<(RawStmt, &'a [Token]), ReadFault>
+    ensures { Gives (λ x. (raw_put_in_front x.0, x.1.now)) result (change_at room name.now line tokens.now) }
+{
+    let Some((sign, others)) = tokens.split_first() else {
+        return Err(ReadFault::Grammar);
+    };
+    if is_sign(Sign::Assign, &sign.kind) {
+        let (expr, after) = read_shallow(alloc, room, others)?;
+        let name = name.copy()?;
+        return Ok((RawStmt::Assign(name, line, expr), after));
+    }
+    if let Some(op) = update_of(&sign.kind) {
+        let (expr, after) = read_shallow(alloc, room.saturating_sub(1), others)?;
+        let stmt = updated(alloc, name, line, op, sign.line, expr)?;
+        return Ok((stmt, after));
+    }
+    let Some(op) = step_of(&sign.kind) else {
+        return Err(ReadFault::Grammar);
+    };
+    read_step(alloc, room, name, line, op, sign.line, others)
+}
+
+/// An assignment, without the `;` behind it.
+///
+/// simple: name ("=" | "+=" | "-=" | "*=") expr, name ("++" | "--"), or ("++" | "--") name
+#[tactic(auto, unfolding(crate::specs::ReadStatements::simple_at))]
+pub fn read_simple<'a>(
+    alloc: Global,
+    room: u32,
+    tokens: &'a [Token],
+) -> Result<(RawStmt, &'a [Token]), ReadFault>
+    ensures { Gives (λ x. (raw_put_in_front x.0, x.1.now)) result (simple_at room tokens.now) }
+{
+    if room == 0 {
+        return Err(ReadFault::Grammar);
+    }
+    let Some((first, others)) = tokens.split_first() else {
+        return Err(ReadFault::Grammar);
+    };
+    if let Kind::Word(name) = &first.kind {
+        return read_change(alloc, room - 1, name, first.line, others);
+    }
+    let Some(op) = step_of(&first.kind) else {
+        return Err(ReadFault::Grammar);
+    };
+    let Some((name, line, after)) = name_at(others) else {
+        return Err(ReadFault::Grammar);
+    };
+    read_step(alloc, room - 1, name, line, op, first.line, after)
+}
+
+// The constant that stands first.
+fn constant_at(tokens: &[Token]) -> Result<(u64, &[Token]), ReadFault>
+    ensures { Gives (λ x. (x.0, x.1.now)) result (constant_at tokens.now) }
+{
+    match tokens.split_first() {
+        Some(
+            (
+                Token {
+                    kind: Kind::Constant(value),
+                    ..
+                },
+                others,
+            ),
+        ) => Ok((*value, others)),
+        _ => Err(ReadFault::Grammar),
+    }
+}
+
+/// The number of a mark, behind its word.
+///
+/// mark: "__mark" "(" constant ")"
+#[tactic(auto, unfolding(crate::specs::ReadStatements::mark_at))]
+pub fn read_mark(tokens: &[Token]) -> Result<(u64, &[Token]), ReadFault>
+    ensures { Gives (λ x. (x.0, x.1.now)) result (mark_at tokens.now) }
+{
+    let others = expect(Sign::OpenRound, tokens)?;
+    let (number, others) = constant_at(others)?;
+    let after = expect(Sign::CloseRound, others)?;
+    Ok((number, after))
+}
+
+/// The condition of a loop.
+///
+/// cond: expr, or mark ("&" | "&&") expr
+#[tactic(auto, unfolding(crate::specs::ReadStatements::condition_at))]
+pub fn read_condition<'a>(
+    alloc: Global,
+    room: u32,
+    tokens: &'a [Token],
+) -> Result<(RawCond, &'a [Token]), ReadFault>
+    ensures { Gives (λ x. (raw_condition_of x.0, x.1.now)) result (condition_at room tokens.now) }
+{
+    let Some(others) = behind_sign(Sign::MarkWord, tokens) else {
+        let (cond, after) = read_shallow(alloc, room, tokens)?;
+        return Ok((RawCond { mark: None, cond }, after));
+    };
+    let (number, others) = read_mark(others)?;
+    let others = expect(Sign::Ampersand, others)?;
+    let (cond, after) = read_shallow(alloc, room, others)?;
+    let mark = Some(number);
+    Ok((RawCond { mark, cond }, after))
+}
+
+/// The first part of the head of a `for`: a declaration or an assignment.
+#[tactic(auto, unfolding(crate::specs::ReadStatements::start_at))]
+pub fn read_start<'a>(
+    alloc: Global,
+    room: u32,
+    tokens: &'a [Token],
+) -> Result<(RawStmt, &'a [Token]), ReadFault>
+    ensures { Gives (λ x. (raw_put_in_front x.0, x.1.now)) result (start_at room tokens.now) }
+{
+    if begins_type(tokens) {
+        read_declaration(alloc, room, tokens)
+    } else {
+        read_simple(alloc, room, tokens)
+    }
+}

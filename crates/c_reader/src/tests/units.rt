@@ -1,0 +1,497 @@
+//! Files, with all their braces and brackets (6.7 to 6.9).
+use super::expressions::{around, show};
+use super::tokens_of;
+use crate::{ReadFault, read_unit};
+use c_ast::{RawCond, RawDeclarator, RawFunc, RawStmt};
+use sqlite_items::Boxed;
+use std::alloc::{AllocError, Global};
+use std::test::Fail;
+
+fn show_condition(cond: &RawCond, out: &mut String) -> Result<(), AllocError> {
+    if let Some(mark) = &cond.mark {
+        write!(out, "#{mark} ")?;
+    }
+    show(&cond.cond, out)
+}
+
+// The names of a declaration with their lines, each with its initialiser.
+fn show_declarators(declarators: &[RawDeclarator], out: &mut String) -> Result<(), AllocError> {
+    for (i, declarator) in declarators.iter().enumerate() {
+        out.push_str(if i == 0 { "var " } else { ", " })?;
+        write!(
+            out,
+            "{}@{}",
+            declarator.var.name.text(),
+            declarator.var.line
+        )?;
+        if let Some(value) = &declarator.initialiser {
+            out.push_str(" = ")?;
+            show(value, out)?;
+        }
+    }
+    Ok(())
+}
+
+#[cycle(shown)]
+fn show_part(part: &Option<Boxed<RawStmt>>, out: &mut String) -> Result<(), AllocError> {
+    if let Some(stmt) = part {
+        show_statement(stmt.get(), out)?;
+    }
+    Ok(())
+}
+
+#[cycle(shown)]
+fn show_statements(stmts: &[RawStmt], out: &mut String) -> Result<(), AllocError> {
+    out.push_str("{")?;
+    for (i, stmt) in stmts.iter().enumerate() {
+        out.push_str(if i == 0 { "" } else { " " })?;
+        show_statement(stmt, out)?;
+        out.push_str(";")?;
+    }
+    out.push_str("}")
+}
+
+// Writes a statement; a loop or a branch has brackets around its parts.
+#[cycle(shown)]
+fn show_statement(stmt: &RawStmt, out: &mut String) -> Result<(), AllocError> {
+    match stmt {
+        RawStmt::Declare(declarators) => show_declarators(declarators.as_slice(), out),
+        RawStmt::Assign(name, line, value) => {
+            write!(out, "{}@{line} = ", name.text())?;
+            show(value, out)
+        }
+        RawStmt::If(cond, first, second) => {
+            out.push_str("if ")?;
+            show(cond, out)?;
+            out.push_str(" [")?;
+            show_statement(first.get(), out)?;
+            if let Some(second) = second {
+                out.push_str("] else [")?;
+                show_statement(second.get(), out)?;
+            }
+            out.push_str("]")
+        }
+        RawStmt::While(cond, body) => {
+            out.push_str("while ")?;
+            show_condition(cond, out)?;
+            out.push_str(" [")?;
+            show_statement(body.get(), out)?;
+            out.push_str("]")
+        }
+        RawStmt::Do(body, cond) => {
+            out.push_str("do [")?;
+            show_statement(body.get(), out)?;
+            out.push_str("] while ")?;
+            show_condition(cond, out)
+        }
+        RawStmt::For(start, cond, step, body) => {
+            out.push_str("for (")?;
+            show_part(start, out)?;
+            out.push_str(" | ")?;
+            if let Some(cond) = cond {
+                show_condition(cond, out)?;
+            }
+            out.push_str(" | ")?;
+            show_part(step, out)?;
+            out.push_str(") [")?;
+            show_statement(body.get(), out)?;
+            out.push_str("]")
+        }
+        RawStmt::Break(line) => write!(out, "break@{line}"),
+        RawStmt::Continue(line) => write!(out, "continue@{line}"),
+        RawStmt::Return(value) => {
+            out.push_str("return ")?;
+            show(value, out)
+        }
+        RawStmt::Mark(mark) => write!(out, "#{mark}"),
+        RawStmt::Block(stmts) => show_statements(stmts.as_slice(), out),
+        RawStmt::Empty => out.push_str("-"),
+    }
+}
+
+fn show_function(func: &RawFunc, out: &mut String) -> Result<(), AllocError> {
+    write!(out, "{}@{}(", func.name.text(), func.line)?;
+    for (i, var) in func.params.as_slice().iter().enumerate() {
+        out.push_str(if i == 0 { "" } else { ", " })?;
+        write!(out, "{}@{}", var.name.text(), var.line)?;
+    }
+    out.push_str(") ")?;
+    show_statements(func.body.as_slice(), out)
+}
+
+// The functions of a text, or its fault.
+fn shown(alloc: Global, text: &str) -> Result<String, Fail> {
+    let mut out = String::new(alloc);
+    match read_unit(alloc, &tokens_of(alloc, text)?) {
+        Ok(unit) => {
+            for (i, func) in unit.funcs.as_slice().iter().enumerate() {
+                out.push_str(if i == 0 { "" } else { " " })?;
+                show_function(func, &mut out)?;
+            }
+        }
+        Err(ReadFault::Memory) => return Err(AllocError.into()),
+        Err(fault) => write!(out, "{fault:?}")?,
+    }
+    Ok(out)
+}
+
+#[test]
+fn files_are_read_as_in_c(rt: HostRuntime) -> Result<(), Fail> {
+    let alloc = rt.alloc();
+    let rows = [
+        // Items.
+        ("", ""),
+        ("int f() {}", "f@1() {}"),
+        ("int f(void) {} int g() {}", "f@1() {} g@1() {}"),
+        ("extern static int f() {}", "f@1() {}"),
+        ("int __mark(int);", ""),
+        ("extern int __mark(int k); int f() {}", "f@1() {}"),
+        ("static long __mark(long long int k);", ""),
+        ("int f(int a, long\nb) {}", "f@1(a@1, b@2) {}"),
+        ("int\nf\n() {}", "f@2() {}"),
+        // Types.
+        (
+            "long f(long int a, long long b, long long int c) {}",
+            "f@1(a@1, b@1, c@1) {}",
+        ),
+        (
+            "long int f() { long long x; long int y; }",
+            "f@1() {var x@1; var y@1;}",
+        ),
+        // Declarations.
+        ("int f() { int x; }", "f@1() {var x@1;}"),
+        (
+            "int f() { int x = 1, y,\nz = x + y; }",
+            "f@1() {var x@1 = 1, y@1, z@2 = (x@2 +@2 y@2);}",
+        ),
+        // Assignments.
+        ("int f() { x = y; }", "f@1() {x@1 = y;}"),
+        (
+            "int f() {\nx += y * 2; }",
+            "f@1() {x@2 = (x@2 +@2 (y@2 *@2 2));}",
+        ),
+        ("int f() { x -= y - z; }", "f@1() {x@1 = (x - (y - z));}"),
+        ("int f() { x *= y + z; }", "f@1() {x@1 = (x * (y + z));}"),
+        (
+            "int f() { x\n++; x--; }",
+            "f@1() {x@1 = (x +@2 1); x@2 = (x@2 -@2 1);}",
+        ),
+        (
+            "int f() { ++\nx; --x; }",
+            "f@1() {x@2 = (x@2 + 1); x@2 = (x@2 -@2 1);}",
+        ),
+        (
+            "int f() { x -= y ? 1 : 2; }",
+            "f@1() {x@1 = (x - (y ? 1 : 2));}",
+        ),
+        // Statements.
+        ("int f() { ; {} {;} }", "f@1() {-; {}; {-;};}"),
+        (
+            "int f() { return a; return (a); }",
+            "f@1() {return a; return a;}",
+        ),
+        (
+            "int f() { break; continue; }",
+            "f@1() {break@1; continue@1;}",
+        ),
+        ("int f() { __mark(7); }", "f@1() {#7;}"),
+        ("int f() { if (a) b = 1; }", "f@1() {if a [b@1 = 1];}"),
+        (
+            "int f() { if (a) ; else { } }",
+            "f@1() {if a [-] else [{}];}",
+        ),
+        (
+            "int f() { while (a < b) a++; }",
+            "f@1() {while (a < b) [a@1 = (a + 1)];}",
+        ),
+        (
+            "int f() { do a--; while (a); }",
+            "f@1() {do [a@1 = (a - 1)] while a;}",
+        ),
+        (
+            "int f() { for (i = 0; i < n; i++) s += i; }",
+            "f@1() {for (i@1 = 0 | (i < n) | i@1 = (i + 1)) [s@1 = (s + i)];}",
+        ),
+        ("int f() { for (;;) ; }", "f@1() {for ( |  | ) [-];}"),
+        (
+            "int f() { for (int i = 0, j; ; --j) ; }",
+            "f@1() {for (var i@1 = 0, j@1 |  | j@1 = (j - 1)) [-];}",
+        ),
+        // Marks in conditions: the whole rest is the condition.
+        (
+            "int f() { while (__mark(1) & a) ; }",
+            "f@1() {while #1 a [-];}",
+        ),
+        (
+            "int f() { do ; while (__mark(2) && a || b); }",
+            "f@1() {do [-] while #2 (a || b);}",
+        ),
+        (
+            "int f() { for (; __mark(3) & (i <= n);) ; }",
+            "f@1() {for ( | #3 (i <= n) | ) [-];}",
+        ),
+        // An `else` belongs to the nearest `if` that has none.
+        (
+            "int f() { if (a) if (b) ; else ; }",
+            "f@1() {if a [if b [-] else [-]];}",
+        ),
+        (
+            "int f() { if (a) if (b) ; else ; else ; }",
+            "f@1() {if a [if b [-] else [-]] else [-];}",
+        ),
+        (
+            "int f() { if (a) while (b) if (c) ; else ; }",
+            "f@1() {if a [while b [if c [-] else [-]]];}",
+        ),
+        (
+            "int f() { if (a) { if (b) ; } else ; }",
+            "f@1() {if a [{if b [-];}] else [-];}",
+        ),
+        (
+            "int f() { if (a) do if (b) ; while (c); else ; }",
+            "f@1() {if a [do [if b [-]] while c] else [-];}",
+        ),
+        (
+            "int f() { if (a) for (;;) if (b) ; else ; if (c) ; }",
+            "f@1() {if a [for ( |  | ) [if b [-] else [-]]]; if c [-];}",
+        ),
+        // A file as users write it.
+        (
+            "#include <assert.h>\nextern int __mark(int);\n/* c */\nint f(int n) { int i = 1; int s = 0; \
+            while (__mark(42) & (i <= n)) { s += i; i++; } return s; }\n",
+            "f@4(n@4) {var i@4 = 1; var s@4 = 0; while #42 (i@4 <=@4 n@4) [{s@4 = (s@4 +@4 i@4); \
+            i@4 = (i@4 +@4 1);}]; return s@4;}",
+        ),
+    ];
+    for (text, tree) in rows {
+        assert_eq!(rt; shown(alloc, text)?.as_str(), tree, "{text}");
+    }
+    Ok(())
+}
+
+#[test]
+fn other_files_are_refused(rt: HostRuntime) -> Result<(), Fail> {
+    let alloc = rt.alloc();
+    let rows = [
+        // Items.
+        "f() {}",
+        "int f()",
+        "int f() {",
+        "int f() {}}",
+        "int f();",
+        "int x;",
+        "int int f() {}",
+        "int long f() {}",
+        "long long long f() {}",
+        "void f() {}",
+        "int extern f() {}",
+        "int __mark() {}",
+        "int __mark(int) {}",
+        "int __mark(int k)",
+        "int __mark(k);",
+        "int __mark(int, int);",
+        "int __mark(int (k));",
+        "int f(a) {}",
+        "int f(int) {}",
+        "int f(int a int b) {}",
+        "int f(int a,) {}",
+        "int f(void, int a) {}",
+        "int f(void a) {}",
+        "int f(int __mark) {}",
+        "int if() {}",
+        // Declarations.
+        "int f() { int; }",
+        "int f() { int x }",
+        "int f() { int x y; }",
+        "int f() { int x, ; }",
+        "int f() { int x = ; }",
+        "int f() { int x += 1; }",
+        "int f() { int x = y = 1; }",
+        "int f() { static int x; }",
+        "int f() { if (a) int x; }",
+        // Assignments.
+        "int f(int a){int x; int y; x = y = 1; return x;}",
+        "int f() { x; }",
+        "int f() { x + 1; }",
+        "int f() { x = 1 }",
+        "int f() { 1 = x; }",
+        "int f() { (x) = 1; }",
+        "int f() { ++x++; }",
+        "int f() { ++x = 1; }",
+        "int f() { x++ ++; }",
+        "int f() { __mark = 1; }",
+        // Statements.
+        "int f() { return; }",
+        "int f() { return a }",
+        "int f() { break }",
+        "int f() { continue 1; }",
+        "int f() { else ; }",
+        "int f() { if a ; }",
+        "int f() { if () ; }",
+        "int f() { if (a) }",
+        "int f() { if (a) else ; }",
+        "int f() { if (a) ; ; else ; }",
+        "int f() { if (__mark(1) & a) ; }",
+        "int f() { while () ; }",
+        "int f() { while (a) }",
+        "int f() { do ; while (a) }",
+        "int f() { do while (a); }",
+        "int f() { do ; }",
+        "int f() { for (;) ; }",
+        "int f() { for (; ; ;) ; }",
+        "int f() { for (a; ;) ; }",
+        "int f() { for (; ; int i) ; }",
+        "int f() { for (; ; i) ; }",
+        "int f() { for (;;) }",
+        "int f() { __mark(a); }",
+        "int f() { __mark(1) }",
+        "int f() { __mark(1) & a; }",
+        "int f() { __mark 1; }",
+        "int f() { while (__mark(1)) ; }",
+        "int f() { while (__mark(1) & ) ; }",
+        "int f() { while (a & __mark(1)) ; }",
+        "int f() { while ((__mark(1) & a)) ; }",
+        "int f() { while (__mark(a) & b) ; }",
+        "int f() { int g() {} }",
+    ];
+    for text in rows {
+        assert_eq!(rt; shown(alloc, text)?.as_str(), "Grammar", "{text}");
+    }
+    Ok(())
+}
+
+// How a text is read whose middle stands between a front and a back, with parts this many times around it.
+fn answer(
+    alloc: Global,
+    ends: (&str, &str),
+    parts: (&str, &str),
+    times: u32,
+    middle: &str,
+) -> Result<&'static str, AllocError> {
+    let inner = around(alloc, parts.0, times, middle, parts.1)?;
+    let mut text = String::from_str(alloc, ends.0)?;
+    text.push_str(inner.as_str())?;
+    text.push_str(ends.1)?;
+    match read_unit(alloc, &tokens_of(alloc, text.as_str())?) {
+        Ok(_) => Ok("read"),
+        Err(ReadFault::Deep) => Ok("Deep"),
+        Err(ReadFault::Grammar) => Ok("Grammar"),
+        Err(ReadFault::Memory) => Err(AllocError),
+    }
+}
+
+#[test]
+fn depth_of_files_is_limited(rt: HostRuntime) -> Result<(), Fail> {
+    let alloc = rt.alloc();
+    let body = ("int f(int a){", " return a;}");
+    let value = ("int f(int a){return ", ";}");
+    let rows = [
+        // Brackets: the brace counts.
+        (value, ("(", ")"), "a", 199, "read", "Deep"),
+        (("int f(int a){", "}"), ("{", "}"), ";", 199, "read", "Deep"),
+        (("", ""), ("", "}"), "", 1, "Grammar", "Grammar"),
+        (("", ""), (")", ""), "{", 201, "Grammar", "Grammar"),
+        (("", ""), ("", "("), "", 200, "Grammar", "Deep"),
+        // Statements in statements.
+        (body, ("if(a) ", ""), ";", 398, "read", "Grammar"),
+        (body, ("if(a) ; else ", ""), ";", 398, "read", "Grammar"),
+        (body, ("while(a) ", ""), ";", 398, "read", "Grammar"),
+        (body, ("for(;;) ", ""), ";", 398, "read", "Grammar"),
+        (body, ("do ", " while(a);"), ";", 398, "read", "Grammar"),
+        (body, ("if(a) ", ""), "a = a;", 397, "read", "Grammar"),
+        (body, ("if(a) ", ""), "a += a;", 396, "read", "Grammar"),
+        (body, ("if(a) ", ""), "a++;", 396, "read", "Grammar"),
+        (
+            body,
+            ("if(a) ", ""),
+            "while (__mark(1) & a) ;",
+            397,
+            "read",
+            "Grammar",
+        ),
+        (
+            body,
+            ("if(a) ", ""),
+            "for (int i; ; ) ;",
+            397,
+            "read",
+            "Grammar",
+        ),
+        (
+            body,
+            ("if(a) ", ""),
+            "for (int i = a; ; ) ;",
+            396,
+            "read",
+            "Grammar",
+        ),
+        (
+            body,
+            ("if(a) ", ""),
+            "for (; ; a++) ;",
+            395,
+            "read",
+            "Grammar",
+        ),
+        // Expressions in statements.
+        (value, ("- ", ""), "a", 397, "read", "Grammar"),
+        (
+            ("int f(int a){a = ", ";}"),
+            ("- ", ""),
+            "a",
+            397,
+            "read",
+            "Grammar",
+        ),
+        (
+            ("int f(int a){a -= ", ";}"),
+            ("- ", ""),
+            "a",
+            396,
+            "read",
+            "Grammar",
+        ),
+        (
+            ("int f(int a){int b = ", ";}"),
+            ("- ", ""),
+            "a",
+            397,
+            "read",
+            "Grammar",
+        ),
+        (
+            ("int f(int a){if (", ") ;}"),
+            ("- ", ""),
+            "a",
+            397,
+            "read",
+            "Grammar",
+        ),
+        (
+            ("int f(int a){for (a = ", "; ;) ;}"),
+            ("- ", ""),
+            "a",
+            396,
+            "read",
+            "Grammar",
+        ),
+        // Lists do not nest.
+        (body, (";", ""), "", 5000, "read", "read"),
+        (("", ""), ("int f(){} ", ""), "", 5000, "read", "read"),
+    ];
+    for (ends, parts, middle, times, here, past) in rows {
+        assert_eq!(rt;
+            answer(alloc, ends, parts, times, middle)?,
+            here,
+            "{} {middle}",
+            parts.0
+        );
+        assert_eq!(rt;
+            answer(alloc, ends, parts, times + 1, middle)?,
+            past,
+            "{} {middle}",
+            parts.0
+        );
+    }
+    Ok(())
+}
