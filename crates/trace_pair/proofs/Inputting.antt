@@ -1,0 +1,35 @@
+-- What holds of every input.
+use Rattle.std.proofs.Common.{◌≡◌, ℕ, ℤ, Bool, true, false, cond, nat_lt, List, map, length, arith}
+use Rattle.std.specs.Prelude.{All}
+use Rattle.std.specs.List.{range_with_len}
+use Rattle.std.proofs.lemmas.Bool.Decides.{nat_tests}
+use Rattle.std.proofs.lemmas.List.{length-map}
+use Rattle.std.proofs.lemmas.List.Elements.{All-weaker}
+use Rattle.std.proofs.lemmas.List.FromFn.{length-map-range_with_len}
+use Rattle.std.proofs.Common.{◌∙◌}
+use Rattle.c_ast.specs.Bounds.{Bounds}
+use Rattle.c_ast.specs.Narrow.{is_narrow}
+use Rattle.graph_run.specs.Answers.{AreNarrow}
+use Rattle.trace_pair.specs.Inputs.{grid_size, grid_value, word_value, words, generator_of, input_of, IsNear}
+use Rattle.trace_pair.proofs.Grid.{grid_is_near}
+use Rattle.trace_pair.proofs.Words.{length-words, words_are_near}
+
+pub length_of_input : (settings : Bounds) (index arity : ℕ) → length (input_of settings index arity) ≡ arity
+length_of_input settings index arity = on (nat_lt index (grid_size arity))
+  where
+    on : (early : Bool) → length (cond early (map (grid_value index) (range_with_len 0 arity)) (map word_value (words arity (generator_of settings.seed index)))) ≡ arity
+    on true = length-map-range_with_len (grid_value index) 0 arity
+    on false = length-map (words arity (generator_of settings.seed index)) word_value ∙ length-words arity (generator_of settings.seed index)
+
+pub near_input_of : (settings : Bounds) (index arity : ℕ) → All IsNear (input_of settings index arity)
+near_input_of settings index arity = on (nat_lt index (grid_size arity))
+  where
+    on : (early : Bool) → All IsNear (cond early (map (grid_value index) (range_with_len 0 arity)) (map word_value (words arity (generator_of settings.seed index))))
+    on true = grid_is_near index arity
+    on false = words_are_near arity (generator_of settings.seed index)
+
+near_is_narrow : (value : ℤ) → IsNear value → is_narrow value ≡ true
+near_is_narrow value near = grind (arith, nat_tests)
+
+pub near_are_narrow : (values : List ℤ) → All IsNear values → AreNarrow values
+near_are_narrow values near = All-weaker IsNear (λ value. is_narrow value ≡ true) near_is_narrow values near

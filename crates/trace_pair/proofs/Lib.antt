@@ -1,0 +1,7 @@
+pub mod Grid
+pub mod Words
+pub mod Inputting
+pub mod Judging
+pub mod Narrowing
+pub mod Answering
+pub mod Samples

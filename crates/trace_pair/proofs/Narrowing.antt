@@ -1,0 +1,90 @@
+-- The values of a run that is judged to return are below 2^100 in size.
+use Rattle.std.proofs.Common.{◌≡◌, ℕ, zero, suc, Bool, true, false, cond, nat_lt, List, [], ◌∷◌, Option, Some, None, ℤ, refl, subst}
+use Rattle.std.proofs.lemmas.List.Elements.{All-nil, All-cons, All-head, All-tail}
+use Rattle.c_ast.specs.declared.trace.Event.{Event}
+use Rattle.c_ast.specs.declared.trace.Trace.{Trace}
+use Rattle.c_ast.specs.declared.interpreter.Outcome.{Outcome}
+use Rattle.c_ast.specs.declared.interpreter.Outcome.TheVariants as outcome
+use Rattle.c_ast.specs.Tree.{Nil, Set, If, Loop, Break, Continue, Return, Mark, Block, Program}
+use Rattle.c_ast.specs.Value.{eval}
+use Rattle.c_ast.specs.Narrow.{is_narrow}
+use Rattle.c_ast.specs.Step.{Scope, Work, Run, Test, Cond, Tail, Next, Goes, Passes, Ends, is_in, step, tested, evaluated, scope_of, with_value, values_from, values_in, first_variables, seen_next}
+use Rattle.c_ast.specs.Shown.{evaluates_narrow}
+use Rattle.c_ast.specs.Trace.{no_event}
+use Rattle.c_ast.specs.Interpreted.{with_first, returned}
+use Rattle.flow_graph.specs.Judged.{at_most, IsJudged}
+use Rattle.graph_run.specs.Answers.{AreNarrow, IsNarrow}
+use Rattle.graph_run.proofs.Narrowness.{value_narrow, set_narrow, spread_narrow}
+use Rattle.trace_pair.proofs.Judging.{Judged}
+
+abbrev NextIsNarrow : Next → Type 0
+NextIsNarrow (Goes work env) = AreNarrow env
+NextIsNarrow (Passes mark work env) = AreNarrow env
+NextIsNarrow (Ends value) = is_narrow value ≡ true
+
+step_is_narrow : (work : Work) (env : List ℤ) → AreNarrow env → evaluates_narrow (evaluated work) env ≡ true → NextIsNarrow (step work env)
+step_is_narrow [] env all holds = refl
+step_is_narrow (Run scope Nil ∷ work) env all holds = all
+step_is_narrow (Run scope (Set x e others) ∷ work) env all holds = set_narrow env x (eval e env) all (value_narrow e env holds)
+step_is_narrow (Run scope (If e a b others) ∷ work) env all holds = all
+step_is_narrow (Run scope (Loop mark e body tail test_first others) ∷ work) env all holds = all
+step_is_narrow (Run scope (Break others) ∷ work) env all holds = all
+step_is_narrow (Run scope (Continue others) ∷ work) env all holds = all
+step_is_narrow (Run scope (Return e others) ∷ work) env all holds = value_narrow e env holds
+step_is_narrow (Run scope (Mark mark others) ∷ work) env all holds = all
+step_is_narrow (Run scope (Block a others) ∷ work) env all holds = all
+step_is_narrow (Test scope loop ∷ work) env all holds = on loop.mark
+  where
+    on : (mark : Option ℕ) → NextIsNarrow (tested mark (Cond scope loop ∷ work) env)
+    on None = all
+    on (Some mark) = all
+step_is_narrow (Cond scope loop ∷ work) env all holds = all
+step_is_narrow (Tail scope loop ∷ work) env all holds = all
+
+scope_is_narrow : (scope : Scope) (i : ℕ) (env : List ℤ) → AreNarrow env → AreNarrow (values_from scope i env)
+scope_is_narrow scope i [] all = all
+scope_is_narrow scope i (value ∷ env) all =
+    on (is_in scope i) (scope_is_narrow scope (suc i) env (All-tail (λ z. is_narrow z ≡ true) value env all))
+  where
+    on : (within : Bool) → AreNarrow (values_from scope (suc i) env) → AreNarrow (with_value within value (values_from scope (suc i) env))
+    on true others = All-cons (λ z. is_narrow z ≡ true) value (values_from scope (suc i) env) (All-head (λ z. is_narrow z ≡ true) value env all) others
+    on false others = others
+
+first_is_narrow : (event : Event) (later : Option Outcome) (trace : Trace) → AreNarrow event.values → ((more : Trace) → later ≡ Some (outcome.Returned more) → IsNarrow more)
+    → with_first event later ≡ Some (outcome.Returned trace) → IsNarrow trace
+first_is_narrow event None trace values others is = cc
+first_is_narrow event (Some (outcome.Returned more)) trace values others is =
+    let same : record { events = event ∷ more.events; result = more.result } ≡ trace = cc in
+    let narrow = others more refl in
+    let events = All-cons (λ e. AreNarrow e.values) event more.events values narrow.events in
+    subst IsNarrow same (record { events = events; result = narrow.result })
+first_is_narrow event (Some outcome.Wide) trace values others is = cc
+first_is_narrow event (Some outcome.CutOff) trace values others is = cc
+
+judged_narrow : (limit n marks : ℕ) (work : Work) (env : List ℤ) (trace : Trace) → AreNarrow env → Judged limit n marks work env ≡ Some (outcome.Returned trace) → IsNarrow trace
+judged_narrow limit zero marks work env trace all is = cc
+judged_narrow limit (suc n) marks work env trace all is = at (evaluates_narrow (evaluated work) env) refl is (λ m. judged_narrow limit n m)
+  where
+    on : (next : Next) → NextIsNarrow next → ((m : ℕ) (work : Work) (env : List ℤ) (trace : Trace) → AreNarrow env → Judged limit n m work env ≡ Some (outcome.Returned trace) → IsNarrow trace)
+        → seen_next evaluates_narrow (Some outcome.Wide) (at_most limit) returned (Judged limit n) marks next ≡ Some (outcome.Returned trace) → IsNarrow trace
+    on (Goes work env) all later is = later marks work env trace all is
+    on (Passes mark work env) all later is = under (nat_lt marks limit) is
+      where
+        event : Event
+        event = record { mark = mark; values = values_in (scope_of work) env }
+
+        under : (few : Bool) → cond few (with_first event (Judged limit n (suc marks) work env)) (Some outcome.CutOff) ≡ Some (outcome.Returned trace) → IsNarrow trace
+        under true is = first_is_narrow event (Judged limit n (suc marks) work env) trace (scope_is_narrow (scope_of work) 0 env all) (λ more. later (suc marks) work env more all) is
+        under false is = cc
+    on (Ends value) all later is =
+        let same : no_event value ≡ trace = cc in
+        subst IsNarrow same (record { events = All-nil (λ (e : Event). AreNarrow e.values); result = all })
+
+    at : (holds : Bool) → evaluates_narrow (evaluated work) env ≡ holds
+        → cond holds (seen_next evaluates_narrow (Some outcome.Wide) (at_most limit) returned (Judged limit n) marks (step work env)) (Some outcome.Wide) ≡ Some (outcome.Returned trace)
+        → ((m : ℕ) (work : Work) (env : List ℤ) (trace : Trace) → AreNarrow env → Judged limit n m work env ≡ Some (outcome.Returned trace) → IsNarrow trace) → IsNarrow trace
+    at true holds is later = on (step work env) (step_is_narrow work env all holds) later is
+    at false holds is later = cc
+
+pub judged_is_narrow : (f : Program) (inputs : List ℤ) (limit : ℕ) (trace : Trace) → AreNarrow inputs → IsJudged f inputs limit (outcome.Returned trace) → IsNarrow trace
+judged_is_narrow f inputs limit trace all h = judged_narrow limit h.steps 0 _ _ trace (spread_narrow (first_variables f.params) 0 f.vars inputs all) h.is
