@@ -1,0 +1,207 @@
+-- A point of a list meets the rows that joined it.
+use Rattle.std.proofs.Common.{◌≡◌, ℕ, zero, suc, ◌+◌, ◌<◌, ◌≤◌, Bool, true, false, cond, not, List, [], ◌∷◌, ◌++◌, arith, refl, sym, ◌∙◌, subst, length, length-set, set, Result, Ok, Err}
+use Rattle.std.specs.Prelude.{ℤ, pos, negsuc, ◌+ℤ◌, ◌*ℤ◌, ◌-ℤ◌, ◌≤ℤ◌, ◌<ℤ◌, ◌&&◌, int_lt, nat_le}
+use Rattle.std.specs.List.{AllByRecursion}
+use Rattle.std.specs.Ordering.{int_eq}
+use Rattle.std.proofs.lemmas.Int.{ints}
+use Rattle.std.proofs.lemmas.Bool.Decides.{Decides-int_eq}
+use lib.Pointwise.{pointwise, pointwise_decides}
+use Rattle.lin_terms.specs.Vectors.{dot, scaled}
+use Rattle.lin_terms.specs.Row.{Allows, Meets}
+use Rattle.lin_terms.proofs.Ring.{as_dif, same_dif, difs}
+use Rattle.lin_terms.proofs.Signs.{nonneg_add, nonneg_mul}
+use Rattle.lin_terms.proofs.Dots.{length-scaled}
+use Rattle.elimination.specs.declared.answer.Stop.{Stop}
+use Rattle.elimination.specs.declared.answer.Stop.TheVariants.{Contradiction, AtLimit}
+use Rattle.elimination.specs.declared.answer.Limit.TheVariants.{WideRow, ManyRows}
+use Rattle.elimination.specs.Combination.{Combination, is_zero}
+use Rattle.elimination.specs.Column.{projected}
+use Rattle.elimination.specs.Joining.{numbers_of, primitive, is_wide, has_no_variable, allows, turned, judged, is_parallel, tighter, placed, added, counted, joined, joined_each, list_of}
+use Rattle.elimination.specs.Eliminated.{eliminate}
+use Rattle.elimination.proofs.Lists.{all_front, all_back}
+use Rattle.elimination.proofs.Points.{MeetsEach, zero_is}
+use Rattle.elimination.proofs.Primitive.{primitive_back}
+use Rattle.elimination.proofs.Column.{carried_back}
+
+pub ok_same : (xs ys : List Combination) → ◌≡◌ {A = Result (List Combination) Stop} (Ok xs) (Ok ys) → xs ≡ ys
+ok_same xs ys e = cc
+
+pub and_true : (a b : Bool) → (a && b) ≡ true → (a ≡ true) × (b ≡ true)
+and_true true b e = (refl, e)
+and_true false b e = cc
+
+not_true : (b : Bool) → not b ≡ true → b ≡ false
+not_true true e = sym e
+not_true false e = refl
+
+-- ---- a row that is left out
+
+dot-no_variable : (coefs numbers : List ℤ) → has_no_variable coefs ≡ true → dot coefs numbers ≡ pos 0
+dot-no_variable [] numbers e = refl
+dot-no_variable (c ∷ coefs) [] e = refl
+dot-no_variable (c ∷ coefs) (x ∷ numbers) e =
+    let both = and_true (is_zero c) (has_no_variable coefs) e in
+    rw (zero_is c both.0, dot-no_variable coefs numbers both.1) (omega (arith, ints))
+
+constant_allowed : (equality : Bool) (c d : ℤ) → pos 0 ≤ℤ d → allows equality c ≡ true → Allows equality (pos 0 +ℤ (c *ℤ d))
+constant_allowed true c d not_negative e = rw (zero_is c e) (omega (arith, ints))
+constant_allowed false (pos n) d not_negative e =
+    nonneg_add (pos 0) (pos n *ℤ d) (omega (arith, ints)) (nonneg_mul (pos n) d (omega (arith, ints)) not_negative)
+constant_allowed false (negsuc n) d not_negative e = cc
+
+left_out : (numbers : List ℤ) (d : ℤ) (row : Combination) → pos 0 ≤ℤ d → has_no_variable row.row.coefs ≡ true
+    → allows row.row.equality row.row.constant ≡ true → Meets numbers d row.row
+left_out numbers d row not_negative no_variable allowed =
+    rw (dot-no_variable row.row.coefs numbers no_variable) (constant_allowed row.row.equality row.row.constant d not_negative allowed)
+
+-- ---- parallel rows
+
+same_coefs : (xs ys : List ℤ) → pointwise int_eq xs ys ≡ true → xs ≡ ys
+same_coefs xs ys e = (pointwise_decides Decides-int_eq xs ys).0 e
+
+less_step : (s a b d : ℤ) → (s +ℤ (a *ℤ d)) +ℤ ((b -ℤ a) *ℤ d) ≡ s +ℤ (b *ℤ d)
+less_step s a b d = rw (as_dif s, as_dif a, as_dif b, as_dif d) (simp difs (same_dif _ _ _ _ (omega arith)))
+
+-- what holds with the less constant holds with the greater
+less_constant : (s a b d : ℤ) → pos 0 ≤ℤ d → a ≤ℤ b → pos 0 ≤ℤ (s +ℤ (a *ℤ d)) → pos 0 ≤ℤ (s +ℤ (b *ℤ d))
+less_constant s a b d not_negative below holds =
+    subst (λ z. pos 0 ≤ℤ z) (less_step s a b d)
+    (nonneg_add (s +ℤ (a *ℤ d)) ((b -ℤ a) *ℤ d) holds (nonneg_mul (b -ℤ a) d (omega (arith, ints)) not_negative))
+
+-- ---- lists
+
+module _ (numbers : List ℤ) (d : ℤ) (not_negative : pos 0 ≤ℤ d) where
+  abbrev Met : Combination → Type 0
+  Met row = Meets numbers d row.row
+
+  parallel_met : (p q : Combination) → p.row.equality ≡ false → q.row.equality ≡ false → p.row.coefs ≡ q.row.coefs
+      → p.row.constant ≤ℤ q.row.constant → Met p → Met q
+  parallel_met p q p_inequality q_inequality coefs below met =
+      let holds : pos 0 ≤ℤ (dot p.row.coefs numbers +ℤ (p.row.constant *ℤ d)) = subst (λ b. Allows b (dot p.row.coefs numbers +ℤ (p.row.constant *ℤ d))) p_inequality met in
+      rw (q_inequality, ← coefs) (less_constant (dot p.row.coefs numbers) p.row.constant q.row.constant d not_negative below holds)
+
+  -- of parallel rows the one that stays implies the other
+  tighter_step : (test : Bool) (earlier row : Combination) → int_lt row.row.constant earlier.row.constant ≡ test → row.row.equality ≡ false
+      → is_parallel earlier row ≡ true → Met (cond test row earlier) → Met earlier × Met row
+  tighter_step true earlier row less inequality parallel met =
+      let both = and_true (not earlier.row.equality) (pointwise int_eq earlier.row.coefs row.row.coefs) parallel in
+      let below : row.row.constant ≤ℤ earlier.row.constant = omega (arith, ints) in
+      (parallel_met row earlier inequality (not_true earlier.row.equality both.0) (sym (same_coefs earlier.row.coefs row.row.coefs both.1)) below met, met)
+  tighter_step false earlier row less inequality parallel met =
+      let both = and_true (not earlier.row.equality) (pointwise int_eq earlier.row.coefs row.row.coefs) parallel in
+      let below : earlier.row.constant ≤ℤ row.row.constant = omega (arith, ints) in
+      (met, parallel_met earlier row (not_true earlier.row.equality both.0) inequality (same_coefs earlier.row.coefs row.row.coefs both.1) below met)
+
+  placed_step : (test : Bool) (earlier row : Combination) (rows : List Combination) → is_parallel earlier row ≡ test → row.row.equality ≡ false
+      → (AllByRecursion Met (placed rows row) → AllByRecursion Met rows × Met row)
+      → AllByRecursion Met (cond test (tighter earlier row ∷ rows) (earlier ∷ placed rows row)) → AllByRecursion Met (earlier ∷ rows) × Met row
+  placed_step true earlier row rows parallel inequality later met =
+      let both = tighter_step (int_lt row.row.constant earlier.row.constant) earlier row refl inequality parallel met.0 in
+      ((both.0, met.1), both.1)
+  placed_step false earlier row rows parallel inequality later met = let both = later met.1 in ((met.0, both.0), both.1)
+
+  placed_back : (rows : List Combination) (row : Combination) → row.row.equality ≡ false → AllByRecursion Met (placed rows row) → AllByRecursion Met rows × Met row
+  placed_back [] row inequality met = (tt, met.0)
+  placed_back (earlier ∷ rows) row inequality met =
+      placed_step (is_parallel earlier row) earlier row rows refl inequality (placed_back rows row inequality) met
+
+  added_back : (equality : Bool) (rows : List Combination) (row : Combination) → row.row.equality ≡ equality
+      → AllByRecursion Met (cond equality (rows ++ row ∷ []) (placed rows row)) → AllByRecursion Met rows × Met row
+  added_back true rows row is met = (all_front Met rows (row ∷ []) met, (all_back Met rows (row ∷ []) met).0)
+  added_back false rows row is met = placed_back rows row is met
+
+  counted_back : (test : Bool) (rows out : List Combination) → cond test (Ok rows) (Err (AtLimit ManyRows)) ≡ Ok out → rows ≡ out
+  counted_back true rows out e = cc
+  counted_back false rows out e = cc
+
+  judged_back : (test : Bool) (rows : List Combination) (stop : Stop) (out : List Combination) → cond test (Ok rows) (Err stop) ≡ Ok out → (test ≡ true) × (rows ≡ out)
+  judged_back true rows stop out e = (refl, cc)
+  judged_back false rows stop out e = cc
+
+  kept_back : (test : Bool) (cap : ℕ) (rows : List Combination) (row : Combination) (out : List Combination) → has_no_variable row.row.coefs ≡ test
+      → cond test (judged rows row) (counted cap (added rows row)) ≡ Ok out → AllByRecursion Met out → AllByRecursion Met rows × Met row
+  kept_back true cap rows row out no_variable e met =
+      let stays = judged_back (allows row.row.equality row.row.constant) rows (Contradiction (turned row.row.constant row.multipliers)) out e in
+      (subst (AllByRecursion Met) (sym stays.1) met, left_out numbers d row not_negative no_variable stays.0)
+  kept_back false cap rows row out no_variable e met =
+      added_back row.row.equality rows row refl (subst (AllByRecursion Met) (sym (counted_back (nat_le (length (added rows row)) cap) (added rows row) out e)) met)
+
+  admitted_back : (test : Bool) (cap : ℕ) (rows : List Combination) (row : Combination) (out : List Combination)
+      → cond test (Err (AtLimit WideRow)) (cond (has_no_variable row.row.coefs) (judged rows row) (counted cap (added rows row))) ≡ Ok out
+      → AllByRecursion Met out → AllByRecursion Met rows × Met row
+  admitted_back true cap rows row out e met = cc
+  admitted_back false cap rows row out e met = kept_back (has_no_variable row.row.coefs) cap rows row out refl e met
+
+  joined_back : (cap : ℕ) (rows : List Combination) (row : Combination) (out : List Combination) → joined cap rows row ≡ Ok out
+      → AllByRecursion Met out → AllByRecursion Met rows × Met row
+  joined_back cap rows row out e met =
+      let both = admitted_back (is_wide (numbers_of (primitive row))) cap rows (primitive row) out e met in
+      (both.0, primitive_back numbers d row both.1)
+
+  -- the list before, which the point meets as well as the rows that joined
+  record MetBefore (before : Result (List Combination) Stop) (later : List Combination) : Type 0 where
+    rows : List Combination
+    is : before ≡ Ok rows
+    meets : AllByRecursion Met rows
+    meets_later : AllByRecursion Met later
+
+  joined_each_back : (cap : ℕ) (before : Result (List Combination) Stop) (later out : List Combination) → joined_each cap before later ≡ Ok out
+      → AllByRecursion Met out → MetBefore before later
+  joined_each_back cap (Err stop) later out e met = cc
+  joined_each_back cap (Ok rows) [] out e met =
+      record { rows = rows; is = refl; meets = subst (AllByRecursion Met) (sym (ok_same rows out e)) met; meets_later = tt }
+  joined_each_back cap (Ok rows) (row ∷ later) out e met =
+      let after = joined_each_back cap (joined cap rows row) later out e met in
+      let both = joined_back cap rows row after.rows after.is after.meets in
+      record { rows = rows; is = refl; meets = both.0; meets_later = (both.1, after.meets_later) }
+
+  pub list_of_back : (cap : ℕ) (rows out : List Combination) → list_of cap rows ≡ Ok out → AllByRecursion Met out → AllByRecursion Met rows
+  list_of_back cap rows out e met = (joined_each_back cap (Ok []) rows out e met).meets_later
+
+-- ---- all columns
+
+pub eliminate_err : (cap left j : ℕ) (stop : Stop) (out : List Combination) → eliminate cap left j (Err stop) ≡ Ok out → ⊥
+eliminate_err cap zero j stop out e = cc
+eliminate_err cap (suc left) j stop out e = cc
+
+positive_mul : (a b : ℤ) → pos 0 <ℤ a → pos 0 <ℤ b → pos 0 <ℤ (a *ℤ b)
+positive_mul (pos zero) b a_positive b_positive = absurd a_positive.lt
+positive_mul (negsuc a) b a_positive b_positive = absurd a_positive.lt
+positive_mul (pos (suc a)) (pos zero) a_positive b_positive = absurd b_positive.lt
+positive_mul (pos (suc a)) (negsuc b) a_positive b_positive = absurd b_positive.lt
+positive_mul (pos (suc a)) (pos (suc b)) a_positive b_positive = omega (arith, ints)
+
+-- a point with n numbers that meets the rows
+pub record HasWidePoint (n : ℕ) (rows : List Combination) : Type 0 where
+  pub numbers : List ℤ
+  pub denominator : ℤ
+  pub many : length numbers ≡ n
+  pub positive : pos 0 <ℤ denominator
+  pub meets : MeetsEach numbers denominator rows
+
+column_back : (cap n j : ℕ) (rows next : List Combination) → j < n → list_of cap (projected j rows) ≡ Ok next → HasWidePoint n next → HasWidePoint n rows
+column_back cap n j rows next below e point =
+    let inside : j < length point.numbers = omega (arith, point.many) in
+    let met = list_of_back point.numbers point.denominator (omega (arith, ints, point.positive)) cap (projected j rows) next e point.meets in
+    let carried = carried_back point.numbers point.denominator j inside rows met in
+    record {
+      numbers = set (scaled carried.factor point.numbers) j carried.number;
+      denominator = carried.factor *ℤ point.denominator;
+      many = length-set (scaled carried.factor point.numbers) j carried.number ∙ length-scaled carried.factor point.numbers ∙ point.many;
+      positive = positive_mul carried.factor point.denominator carried.positive point.positive;
+      meets = carried.meets;
+    }
+
+next_back : (cap n left j : ℕ) (rows out : List Combination) (next : Result (List Combination) Stop) → j + suc left ≤ n
+    → list_of cap (projected j rows) ≡ next → eliminate cap left (suc j) next ≡ Ok out
+    → ((mid : List Combination) → eliminate cap left (suc j) (Ok mid) ≡ Ok out → HasWidePoint n mid) → HasWidePoint n rows
+next_back cap n left j rows out (Err stop) inside e ends later = absurd (eliminate_err cap left (suc j) stop out ends)
+next_back cap n left j rows out (Ok mid) inside e ends later = column_back cap n j rows mid (omega arith) e (later mid ends)
+
+-- a point of the last list gives one of the first
+pub columns_back : (cap n left j : ℕ) (rows out : List Combination) → j + left ≤ n → eliminate cap left j (Ok rows) ≡ Ok out
+    → HasWidePoint n out → HasWidePoint n rows
+columns_back cap n zero j rows out inside e point = subst (HasWidePoint n) (sym (ok_same rows out e)) point
+columns_back cap n (suc left) j rows out inside e point =
+    next_back cap n left j rows out (list_of cap (projected j rows)) inside refl e
+    (λ mid ends. columns_back cap n left (suc j) mid out (omega arith) ends point)

@@ -1,0 +1,39 @@
+-- Elimination of all columns of given rows, and what it answers (Fourier-Motzkin elimination with multipliers).
+use Rattle.std.specs.Prelude.{ℕ, zero, suc, if◌then◌else◌, nat_le, pos, List, [], ◌∷◌, ◌++◌, length, replicate, Result, Ok, Err}
+use Rattle.lin_terms.specs.declared.row.Row.{Row}
+use Rattle.lin_terms.specs.Row.{columns_of}
+use Rattle.elimination.specs.declared.answer.Answer.{Answer}
+use Rattle.elimination.specs.declared.answer.Answer.TheVariants.{Refuted, NotRefutable}
+use Rattle.elimination.specs.declared.answer.Limit.{Limit}
+use Rattle.elimination.specs.declared.answer.Limit.TheVariants.{ManyRows}
+use Rattle.elimination.specs.declared.answer.Stop.{Stop}
+use Rattle.elimination.specs.declared.answer.Stop.TheVariants.{Contradiction, AtLimit}
+use Rattle.elimination.specs.Combination.{Combination}
+use Rattle.elimination.specs.Column.{projected}
+use Rattle.elimination.specs.Joining.{list_of}
+
+-- each given row once: its own multiplier is 1, those of the `before` rows before it and of the rows behind it are 0
+abbrev pub initial : ℕ → List Row → List Combination
+initial before [] = []
+initial before (row ∷ rows) =
+    record { row = row; multipliers = replicate before (pos 0) ++ pos 1 ∷ replicate (length rows) (pos 0) }
+    ∷ initial (suc before) rows
+
+-- the rows that are left where `left` columns are eliminated, from column j on
+abbrev pub eliminate : ℕ → ℕ → ℕ → Result (List Combination) Stop → Result (List Combination) Stop
+eliminate cap zero j rows = rows
+eliminate cap (suc left) j (Err stop) = Err stop
+eliminate cap (suc left) j (Ok rows) = eliminate cap left (suc j) (list_of cap (projected j rows))
+
+-- Where no column is left and nothing has stopped it, the given rows are not refutable.
+abbrev pub answer_of : Result (List Combination) Stop → Result Answer Limit
+answer_of (Ok rows) = Ok NotRefutable
+answer_of (Err (Contradiction multipliers)) = Ok (Refuted multipliers)
+answer_of (Err (AtLimit limit)) = Err limit
+
+-- what the elimination of all columns answers, with lists of at most `cap` rows
+abbrev pub eliminated : List Row → ℕ → Result Answer Limit
+eliminated rows cap =
+    if nat_le (length rows) 4096
+    then answer_of (eliminate cap (columns_of rows) 0 (list_of cap (initial 0 rows)))
+    else Err ManyRows

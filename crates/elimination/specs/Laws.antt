@@ -1,0 +1,39 @@
+-- What the answers of an elimination say of the given rows (Farkas' lemma).
+use Rattle.std.specs.Prelude.{◌≡◌, ◌≢◌, ◌↔◌, ℕ, ℤ, pos, ◌<ℤ◌, List, All, Ok, Err}
+use Rattle.lin_terms.specs.declared.row.Row.{Row}
+use Rattle.lin_terms.specs.Row.{Meets, HaveOneLength, IsNarrow}
+use Rattle.farkas_check.specs.Refutes.{Refutes, IsRefutable}
+use Rattle.elimination.specs.declared.answer.Answer.{Answer}
+use Rattle.elimination.specs.declared.answer.Answer.TheVariants.{Refuted, NotRefutable}
+use Rattle.elimination.specs.declared.answer.Limit.TheVariants.{Memory}
+use Rattle.elimination.specs.Eliminated.{eliminated}
+
+-- Some fractions meet all rows: these numbers over one positive denominator.
+pub record HasPoint (rows : List Row) : Type 0 where
+  pub numbers : List ℤ
+  pub denominator : ℤ
+  pub positive : pos 0 <ℤ denominator
+  pub meets : All (Meets numbers denominator) rows
+
+-- Multipliers that are answered refute the rows, and are narrow.
+abbrev pub LawOfRefutations : Type 0
+LawOfRefutations = (rows : List Row) (cap : ℕ) (multipliers : List ℤ)
+    → eliminated rows cap ≡ Ok (Refuted multipliers) → Refutes rows multipliers × All IsNarrow multipliers
+
+-- Rows that are answered to be not refutable have a point.
+abbrev pub LawOfPoints : Type 0
+LawOfPoints = (rows : List Row) (cap : ℕ) → HaveOneLength rows → eliminated rows cap ≡ Ok NotRefutable → HasPoint rows
+
+-- the answer is multipliers
+abbrev pub IsRefuted : Answer → Type 0
+IsRefuted (Refuted multipliers) = Unit {0}
+IsRefuted NotRefutable = ⊥
+
+-- Where no limit is met, the answer is multipliers exactly where some refute the rows, of whatever size.
+abbrev pub LawOfRefutability : Type 0
+LawOfRefutability = (rows : List Row) (cap : ℕ) (answer : Answer)
+    → HaveOneLength rows → eliminated rows cap ≡ Ok answer → IsRefuted answer ↔ IsRefutable rows
+
+-- Want of memory is no limit of the method.
+abbrev pub LawOfLimits : Type 0
+LawOfLimits = (rows : List Row) (cap : ℕ) → eliminated rows cap ≢ Err Memory

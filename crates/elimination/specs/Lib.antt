@@ -1,0 +1,5 @@
+pub mod Combination
+pub mod Column
+pub mod Joining
+pub mod Eliminated
+pub mod Laws

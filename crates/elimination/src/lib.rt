@@ -1,0 +1,14 @@
+//! Decides whether linear rows over whole numbers have multipliers that refute them (Farkas' lemma), by elimination.
+//!
+//! Rows and a cap go in; an answer comes out, or the limit that was met. One column after the other is eliminated
+//! (Fourier 1826, Motzkin 1936): by an equality that has it, or else by adding each lower bound of its variable to each
+//! upper bound. A row and the multipliers that make it of the given rows are one value. So a row that cannot hold comes
+//! with the multipliers that refute the given rows, and where no such row comes up the given rows have a point.
+//! `specs/Eliminated.antt` is the whole method, and `specs/Laws.antt` says why its answers may be believed.
+#![tactic(auto)]
+
+mod answer;
+mod laws;
+
+pub use answer::{Answer, Limit};
+pub use laws::{law_of_limits, law_of_points, law_of_refutability, law_of_refutations};
