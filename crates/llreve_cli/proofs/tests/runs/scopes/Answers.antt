@@ -4,7 +4,7 @@ use Rattle.c_ast.specs.declared.trace.Event.{Event}
 use Rattle.c_ast.specs.Function.{program_of}
 use Rattle.c_ast.specs.Scope.{IsPlace}
 use Rattle.llreve_cli.proofs.Marks.{passed_place}
-use Rattle.llreve_cli.proofs.tests.scopes.Goals as goal
+use Rattle.llreve_cli.proofs.tests.runs.scopes.Goals as goal
 
 pub scope-requires : goal.scope-requires
 scope-requires c =
