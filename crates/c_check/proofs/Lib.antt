@@ -1,3 +1,4 @@
+pub mod Samples
 pub mod Slots
 pub mod Marking
 pub mod Pushing

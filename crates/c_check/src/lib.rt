@@ -9,6 +9,8 @@ mod laws;
 mod marks;
 mod resolver;
 mod table;
+#[cfg(test)]
+mod tests;
 mod unit;
 mod walk;
 
