@@ -1,5 +1,5 @@
 -- Which answer comes where.
-use Rattle.std.proofs.Common.{◌≡◌, ℕ, ◌<◌, ◌≤◌, Bool, true, false, nat_lt, List, [], ◌∷◌, ◌++◌, length, map, Option, Some, None, Result, Ok, Err, refl, sym, ap, ◌∙◌, subst, arith, append-nil, length-append, get_or}
+use Rattle.std.proofs.Common.{◌≡◌, ℕ, ◌<◌, ◌≤◌, Bool, true, false, nat_lt, List, [], ◌∷◌, length, Option, Some, None, Result, Ok, Err, refl, sym, ap, ◌∙◌, subst, arith, append-nil, length-append, get_or}
 use Rattle.std.specs.Option.{option_or}
 use Rattle.std.specs.Prelude.{MatchResult, IsErr, IsErrAnd}
 use Rattle.std.proofs.lemmas.Bool.{false≢true}
@@ -13,10 +13,10 @@ use Rattle.c_check.specs.declared.fault.CheckFault.{CheckFault}
 use Rattle.c_check.specs.declared.fault.CheckFault.TheVariants as fault
 use Rattle.c_check.specs.Contents.{declared_in}
 use Rattle.c_check.specs.Resolves.{first_automatic, Resolves}
-use Rattle.c_check.specs.Occurrences.{Names, Occurrence, Use, Declaration, Jump, Marked, occurrences_of}
+use Rattle.c_check.specs.Occurrences.{Occurrence, Use, Declaration, Jump, Marked, occurrences_of}
 use Rattle.c_check.specs.Faults.{holds_name, holds_mark, fault_of, with_mark, first_fault}
-use Rattle.c_check.specs.Checked.{variables_of, fault_in, parameters_of, before_body, IsChecked, IsCheckFault, HoldsOne}
-use Rattle.c_check.specs.Resolving.{Made, made, function_at, HasParts, Fails}
+use Rattle.c_check.specs.Checked.{fault_in, parameters_of, before_body, IsChecked, IsCheckFault}
+use Rattle.c_check.specs.Resolving.{made, function_at, HasParts, Fails}
 use Rattle.c_check.proofs.Meeting.{Meets}
 use Rattle.c_check.proofs.Checking.{MakesFunction, function_meets}
 

@@ -1,5 +1,5 @@
 -- What a file without a fault stands for is a function, and there is one.
-use Rattle.std.proofs.Common.{◌≡◌, ℕ, zero, suc, ◌+◌, ◌<◌, ◌≤◌, Bool, true, false, ◌||◌, ◌==◌, nat_lt, List, [], ◌∷◌, ◌++◌, length, map, Option, Some, None, Result, Ok, Err, refl, sym, ap, ◌∙◌, subst, arith, pos, ◌⊎◌, inl, inr, length-append, append-nil, append_assoc}
+use Rattle.std.proofs.Common.{◌≡◌, ℕ, suc, ◌+◌, ◌<◌, ◌≤◌, Bool, true, false, ◌||◌, ◌==◌, nat_lt, List, [], ◌∷◌, ◌++◌, length, map, Option, Some, None, Result, Ok, Err, refl, sym, ap, ◌∙◌, subst, arith, pos, inl, inr, length-append, append-nil, append_assoc}
 use Rattle.std.specs.Option.{option_or}
 use Rattle.std.proofs.lemmas.Bool.{ltb-true}
 use Rattle.c_ast.specs.declared.func.Var.{Var}
@@ -9,24 +9,24 @@ use Rattle.c_ast.specs.RawShape.{IsShaped}
 use Rattle.c_ast.specs.Tree as tree
 use Rattle.c_ast.specs.Tree.{Expression, Statements, Program}
 use Rattle.c_ast.specs.View.{statements_of}
-use Rattle.c_ast.specs.Step.{Scope, first_variables}
-use Rattle.c_ast.specs.Formed.{one_if, marks, declarations, AreFormed, IsProgram}
-use Rattle.c_ast.specs.Function.{Function, program_of, IsFunction}
+use Rattle.c_ast.specs.Step.{first_variables}
+use Rattle.c_ast.specs.Formed.{one_if, marks, declarations, AreFormed}
+use Rattle.c_ast.specs.Function.{Function, IsFunction}
 use Rattle.c_check.specs.declared.fault.CheckFault.{CheckFault}
 use Rattle.c_check.specs.declared.fault.CheckFault.TheVariants as fault
 use Rattle.c_check.specs.Contents.{declared_in}
 use Rattle.c_check.specs.Resolves.{Bindings, binding, ResolvesExpression, constant, variable, unary, binary, conditional, ResolvesCondition, left_out, stands, Counts, one_variable_more, one_loop_more, behind, loop_mark, named_mark, followed_by, scope_in_for, first_automatic, with_declared, Resolves, none, declared, declares, initialises, assigns, branches, chooses, while_loop, do_loop, for_loop, breaks, continues, returns, block, empty}
 use Rattle.c_check.specs.Resolves as resolves
 use Rattle.c_check.specs.Occurrences.{Names, Occurrence, Use, Declaration, Jump, Marked, with_names, in_declarators, occurrences, plain, occurrences_of}
-use Rattle.c_check.specs.Faults.{holds_name, holds_mark, fault_of, with_mark, first_fault}
+use Rattle.c_check.specs.Faults.{holds_mark, fault_of, first_fault}
 use Rattle.c_check.specs.Checked.{variables_of, fault_in, parameters_of, before_body, IsChecked, IsSameFunction}
 use Rattle.c_check.specs.declared.resolver.Resolver.{Resolver}
 use Rattle.c_check.specs.Table.{names_of, block_names}
 use Rattle.c_check.specs.Resolving.{scope_at, counts_at, with_variable, declared_at, Made, statements_at, parameters_at, nothing_known, function_at}
 use Rattle.c_check.proofs.Meeting.{Meets, Passes, passes_nothing, passes_then, meets_behind, meets_then}
 use Rattle.c_check.proofs.Making.{Makes, declared_meets, counts_as, statements_meet}
-use Rattle.c_check.proofs.Forming.{Known, known_new, IsInside, AreInside, inside_behind, formed}
-use Rattle.c_check.proofs.Counting.{Once, split_at, declared_once, number_is}
+use Rattle.c_check.proofs.Forming.{Known, known_new, AreInside, inside_behind, formed}
+use Rattle.c_check.proofs.Counting.{split_at, declared_once, number_is}
 use Rattle.c_check.proofs.Naming.{named, named-append, marks_counted}
 
 -- ---- lists without a fault

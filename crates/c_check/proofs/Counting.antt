@@ -1,19 +1,17 @@
 -- What the statements of a faultless file stand for declares each variable once, and has each mark once.
-use Rattle.std.proofs.Common.{◌≡◌, ℕ, zero, suc, ◌+◌, ◌<◌, ◌≤◌, Bool, true, false, not, ◌&&◌, ◌||◌, ◌==◌, List, [], ◌∷◌, ◌++◌, length, Option, Some, None, refl, sym, ap, ◌∙◌, subst, arith, pos, ◌⊎◌, inl, inr, length-append, append-nil, append_assoc}
+use Rattle.std.proofs.Common.{◌≡◌, ℕ, suc, ◌+◌, ◌<◌, ◌≤◌, Bool, true, false, not, ◌&&◌, ◌==◌, ◌∷◌, ◌++◌, length, Some, None, refl, subst, arith, ◌⊎◌, inl, inr, length-append}
 use Rattle.std.proofs.lemmas.List.Elements.{All-tail}
-use Rattle.c_ast.specs.declared.func.Var.{Var}
 use Rattle.c_ast.specs.RawTree as raw
 use Rattle.c_ast.specs.RawTree.{RawExpression, RawCondition, RawDeclared, RawStatements}
 use Rattle.c_ast.specs.RawShape.{IsShapedDeclarator, AreShaped}
 use Rattle.c_ast.specs.Tree as tree
 use Rattle.c_ast.specs.Tree.{Expression, Statements}
 use Rattle.c_ast.specs.Step.{Scope, is_in}
-use Rattle.c_ast.specs.Formed.{one_if, declarations, is_mark, marks}
-use Rattle.c_check.specs.Contents.{declared_by, declared_in, loops_in}
+use Rattle.c_ast.specs.Formed.{one_if, declarations}
+use Rattle.c_check.specs.Contents.{declared_by, declared_in}
 use Rattle.c_check.specs.Resolves.{Binding, Bindings, binding, number_of, Counts, one_variable_more, one_loop_more, behind, begins_with_mark, loop_mark, named_mark, first_automatic, followed_by, with_declared, scope_in_for, Resolves, none, declared, declares, initialises, assigns, branches, chooses, while_loop, do_loop, for_loop, breaks, continues, returns, block, empty}
 use Rattle.c_check.specs.Resolves as resolves
-use Rattle.c_check.specs.Occurrences.{Names, Occurrence, Use, Declaration, Jump, Marked, uses_in, uses_in_option, marked_option, uses_in_condition, uses_in_condition_option, with_names, names_in_for, in_declarators, occurrences}
-use Rattle.c_check.proofs.ForParts.{ForStart, for_start}
+use Rattle.c_check.proofs.ForParts.{for_start}
 use Rattle.c_check.proofs.Forming.{Known, known_more, known_set, known_new, same_number, scope_behind, known_in_for}
 
 -- ---- counts within bounds

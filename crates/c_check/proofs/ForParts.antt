@@ -1,5 +1,5 @@
 -- The parts of a `for` head, by their shape.
-use Rattle.std.proofs.Common.{ℕ, List, ◌≡◌}
+use Rattle.std.proofs.Common.{ℕ, List}
 use Rattle.c_ast.specs.RawTree as raw
 use Rattle.c_ast.specs.RawTree.{RawExpression, RawDeclared, RawStatements}
 use Rattle.c_ast.specs.RawShape.{IsForStart, IsForStep}

@@ -1,5 +1,5 @@
 -- What the statements of a faultless file stand for is well formed.
-use Rattle.std.proofs.Common.{◌≡◌, ℕ, zero, suc, ◌+◌, ◌<◌, ◌≤◌, Bool, true, false, cond, not, ◌&&◌, ◌||◌, ◌==◌, nat_eq, List, [], ◌∷◌, ◌++◌, length, map, Option, Some, None, refl, sym, ap, ◌∙◌, subst, arith, pos, ◌⊎◌, inl, inr, length-append, append-nil, append_assoc}
+use Rattle.std.proofs.Common.{◌≡◌, ℕ, suc, ◌+◌, ◌<◌, ◌≤◌, Bool, true, false, cond, ◌||◌, ◌==◌, List, [], ◌∷◌, ◌++◌, length, Option, Some, None, refl, sym, subst, arith, pos, ◌⊎◌, inl, inr, length-append, append-nil, append_assoc}
 use Rattle.std.proofs.lemmas.Bool.{false≢true}
 use Rattle.std.proofs.lemmas.List.Elements.{All-head, All-tail}
 use Rattle.std.specs.Prelude.{option_map, find, bytes_eq}
@@ -11,9 +11,9 @@ use Rattle.c_ast.specs.Tree as tree
 use Rattle.c_ast.specs.Tree.{Expression, Statements}
 use Rattle.c_ast.specs.Step.{Scope, is_in}
 use Rattle.c_ast.specs.Formed.{IsOver, IsSet, BeginsWithMark, PassesMark, HoldsSets, AreFormed}
-use Rattle.c_check.specs.Contents.{declared_by, declared_in, loops_in}
+use Rattle.c_check.specs.Contents.{declared_by, declared_in}
 use Rattle.c_check.specs.Resolves.{Binding, Bindings, binding, number_of, ResolvesExpression, constant, variable, unary, binary, conditional, ResolvesCondition, left_out, stands, Counts, one_variable_more, one_loop_more, behind, begins_with_mark, loop_mark, named_mark, followed_by, with_declared, scope_in_for, Resolves, none, declared, declares, initialises, assigns, branches, chooses, while_loop, do_loop, for_loop, breaks, continues, returns, marks, block, empty}
-use Rattle.c_check.specs.Occurrences.{Names, Occurrence, Use, Declaration, Jump, Marked, uses_in, uses_in_option, uses_in_condition, uses_in_condition_option, with_names, names_in_for, in_declarators, occurrences}
+use Rattle.c_check.specs.Occurrences.{Names, Occurrence, Use, Declaration, Jump, Marked, uses_in, uses_in_condition, uses_in_condition_option, with_names, names_in_for, in_declarators, occurrences}
 use Rattle.c_check.proofs.ForParts.{ForStart, no_start, declares_start, assigns_start, for_start, ForStep, no_step, assigns_step, for_step}
 
 -- ---- the variables in scope

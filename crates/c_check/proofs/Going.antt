@@ -1,6 +1,6 @@
 -- One statement after the other.
 use Rattle.std.proofs.Common.{◌≡◌, ℕ, Bool, true, List, [], ◌∷◌, ◌++◌, Option, Some, None, Result, Ok, Err, refl, sym, ap, ◌∙◌, subst}
-use Rattle.std.specs.Prelude.{MatchResult, OnOk, IfErr, IsErr, IsErrAnd, option_map}
+use Rattle.std.specs.Prelude.{MatchResult, OnOk, IfErr, IsErr, IsErrAnd}
 use Rattle.std.proofs.lemmas.Bool.{false≢true}
 use Rattle.c_ast.specs.declared.expr.Expr.{Expr}
 use Rattle.c_ast.specs.declared.stmt.Stmt.{Stmt, If, Loop, Break, Continue, Return, Mark, Block, fold_out-Stmt, map-Stmt, out-Stmt}
@@ -19,7 +19,7 @@ use Rattle.c_check.specs.declared.resolver.Resolver.{Resolver}
 use Rattle.c_check.specs.Resolves.{loop_mark, named_mark, followed_by}
 use Rattle.c_check.specs.Faults.{fault_of}
 use Rattle.c_check.specs.Occurrences.{Jump}
-use Rattle.c_check.specs.Resolving.{and_then, unless_fault, scope_at, entered, left, with_loop, marked_at, expression_in, MadeCondition, with_condition, condition_at, condition_option_at, Made, made, with_front, closed, statements_at, joined_to, Fails, Puts, Pushes, FailsIn}
+use Rattle.c_check.specs.Resolving.{and_then, unless_fault, scope_at, entered, left, with_loop, marked_at, expression_in, MadeCondition, with_condition, condition_option_at, Made, made, with_front, closed, statements_at, joined_to, Fails, Puts, Pushes, FailsIn}
 use Rattle.c_check.proofs.Pushing.{joined_to-push, joined_to-Nil, with_front-joined}
 
 level : (s : Stmt) (x : Stmt-F Stmt) (others : Statements) → out-Stmt s ≡ x → put_in_front s others ≡ statement_level (map-Stmt Stmt (Statements → Statements) put_in_front x) others

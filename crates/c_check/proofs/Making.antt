@@ -1,21 +1,21 @@
 -- The fault that is met is the first one, and what is made without one is what the statements stand for.
-use Rattle.std.proofs.Common.{◌≡◌, ℕ, suc, ◌+◌, Bool, true, false, List, [], ◌∷◌, ◌++◌, length, map, Option, Some, None, Result, Ok, Err, refl, sym, ap, ◌∙◌, subst, append_assoc, append-nil, length-append, arith, pos}
+use Rattle.std.proofs.Common.{◌≡◌, ℕ, suc, ◌+◌, Bool, true, false, List, [], ◌∷◌, ◌++◌, length, Option, Some, None, Result, Ok, Err, refl, sym, ap, ◌∙◌, subst, append_assoc, append-nil, length-append, arith}
 use Rattle.c_ast.specs.declared.func.Var.{Var}
 use Rattle.c_ast.specs.RawTree as raw
 use Rattle.c_ast.specs.RawTree.{RawExpression, RawCondition, RawDeclared, RawStatements}
-use Rattle.c_ast.specs.RawShape.{IsForStart, IsForStep, AreShaped}
+use Rattle.c_ast.specs.RawShape.{AreShaped}
 use Rattle.c_ast.specs.Tree as tree
 use Rattle.c_ast.specs.Tree.{Expression, Statements}
 use Rattle.c_check.specs.declared.fault.CheckFault.{CheckFault}
 use Rattle.c_check.specs.declared.resolver.Resolver.{Resolver}
-use Rattle.c_check.specs.Contents.{declared_by, declared_in, loops_in}
-use Rattle.c_check.specs.Resolves.{Binding, Bindings, binding, number_of, ResolvesExpression, ResolvesCondition, stands, Counts, one_variable_more, one_loop_more, behind, loop_mark, named_mark, followed_by, with_declared, scope_in_for, Resolves, none, declared, declares, initialises, assigns, branches, chooses, while_loop, do_loop, for_loop, breaks, continues, returns, marks, block, empty}
+use Rattle.c_check.specs.Contents.{declared_in, loops_in}
+use Rattle.c_check.specs.Resolves.{Bindings, binding, ResolvesExpression, ResolvesCondition, stands, Counts, one_variable_more, one_loop_more, behind, loop_mark, named_mark, followed_by, with_declared, scope_in_for, Resolves, none, declared, declares, initialises, assigns, branches, chooses, while_loop, do_loop, for_loop, breaks, continues, returns, marks, block, empty}
 use Rattle.c_check.specs.Occurrences.{Names, Occurrence, Use, Declaration, Jump, Marked, uses_in, uses_in_option, uses_in_condition, uses_in_condition_option, with_names, names_in_for, in_declarators, occurrences}
-use Rattle.c_check.specs.Faults.{fault_of, first_fault}
+use Rattle.c_check.specs.Faults.{fault_of}
 use Rattle.c_check.specs.Table.{Table, scope_of, names_of, block_names, around}
 use Rattle.c_check.specs.Resolving.{and_then, unless_fault, scope_at, counts_at, entered, left, with_loop, with_variable, declared_at, marked_at, variable_in, expression_in, initial_value, MadeCondition, condition_at, condition_option_at, Made, made, with_front, closed, begun, declarators_at, statements_at}
 use Rattle.c_check.proofs.ForParts.{ForStart, no_start, declares_start, assigns_start, for_start}
-use Rattle.c_check.proofs.Meeting.{Meets, Passes, passes_nothing, passes_then, meets_behind, meets_then, meets_one, Stands, variable_meets, Means, expression_meets, Begun, Begins, initial_meets, Grows, grows_nothing, grows_then, counts_behind, Marks, mark_meets, Tests, counts_still, condition_meets, condition_option_meets}
+use Rattle.c_check.proofs.Meeting.{Meets, Passes, passes_nothing, passes_then, meets_behind, meets_then, meets_one, Stands, variable_meets, Means, expression_meets, Begun, Begins, initial_meets, Grows, grows_nothing, grows_then, counts_behind, Marks, mark_meets, Tests, counts_still, condition_option_meets}
 
 -- what statements say where they stand
 abbrev pub said : Table → Bool → RawStatements → List Occurrence

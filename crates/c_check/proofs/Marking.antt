@@ -1,10 +1,9 @@
 -- The marks that were named, in either order.
-use Rattle.std.proofs.Common.{◌≡◌, ℕ, ◌<◌, Bool, true, false, ◌||◌, not, List, [], ◌∷◌, ◌++◌, reverse, Option, Some, None, nat_eq, refl, sym, ap, ◌∙◌, arith}
+use Rattle.std.proofs.Common.{◌≡◌, ℕ, ◌<◌, Bool, true, false, ◌||◌, not, List, [], ◌∷◌, ◌++◌, reverse, Some, None, nat_eq, refl, sym, ap, ◌∙◌, arith}
 use Rattle.std.specs.List.{list_any}
 use Rattle.std.proofs.lemmas.List.{reverse-append}
 use Rattle.std.proofs.lemmas.Bool.{lt-ltb}
 use Rattle.std.proofs.lemmas.List.Folds.{list_any-append}
-use Rattle.c_check.specs.declared.fault.CheckFault.{CheckFault}
 use Rattle.c_check.specs.declared.fault.CheckFault.TheVariants as fault
 use Rattle.c_check.specs.Occurrences.{Marked}
 use Rattle.c_check.specs.Faults.{holds_mark, fault_of}

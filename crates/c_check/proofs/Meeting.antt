@@ -1,5 +1,5 @@
 -- The fault that is met is the first one, and what is made without one is what the expressions stand for.
-use Rattle.std.proofs.Common.{◌≡◌, ℕ, suc, ◌+◌, Bool, true, false, cond, ◌||◌, List, [], ◌∷◌, ◌++◌, length, map, Option, Some, None, Result, Ok, Err, refl, sym, ap, ◌∙◌, subst, append_assoc, append-nil, length-append, arith, pos}
+use Rattle.std.proofs.Common.{◌≡◌, ℕ, ◌+◌, Bool, true, false, cond, ◌||◌, List, [], ◌∷◌, ◌++◌, length, Option, Some, None, Result, Ok, Err, refl, sym, ap, ◌∙◌, subst, append_assoc, append-nil, length-append, arith}
 use Rattle.std.specs.Prelude.{option_map, find, bytes_eq}
 use Rattle.std.specs.Option.{option_or}
 use Rattle.c_ast.specs.declared.func.Var.{Var}
@@ -12,9 +12,9 @@ use Rattle.c_check.specs.declared.fault.CheckFault.TheVariants as fault
 use Rattle.c_check.specs.declared.resolver.Resolver.{Resolver}
 use Rattle.c_check.specs.Contents.{declared_in, loops_in}
 use Rattle.c_check.specs.Resolves.{Binding, Bindings, number_of, ResolvesExpression, constant, variable, unary, binary, conditional, ResolvesCondition, left_out, stands, Counts, behind}
-use Rattle.c_check.specs.Occurrences.{Names, Occurrence, Use, Declaration, Jump, Marked, uses_in, uses_in_option, marked_option, uses_in_condition, uses_in_condition_option}
+use Rattle.c_check.specs.Occurrences.{Occurrence, Use, Marked, uses_in, uses_in_option, marked_option, uses_in_condition, uses_in_condition_option}
 use Rattle.c_check.specs.Faults.{holds_name, fault_of, with_mark, first_fault}
-use Rattle.c_check.specs.Table.{Table, scope_of, names_of, block_names}
+use Rattle.c_check.specs.Table.{Table, scope_of, names_of}
 use Rattle.c_check.specs.Resolving.{and_then, unless_fault, scope_at, counts_at, with_named, marked_at, marked_option_at, found_or, variable_in, expression_in, MadeCondition, with_condition, condition_at, condition_option_at, initial_value}
 
 -- ---- steps, one after the other

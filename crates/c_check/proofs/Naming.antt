@@ -1,14 +1,14 @@
 -- The marks of what the statements of a file stand for are those that the file names, and the automatic ones.
-use Rattle.std.proofs.Common.{◌≡◌, ℕ, suc, ◌+◌, ◌<◌, ◌≤◌, Bool, true, false, ◌==◌, List, [], ◌∷◌, ◌++◌, Option, Some, None, refl, sym, ap, ◌∙◌, subst, arith, append_assoc}
+use Rattle.std.proofs.Common.{◌≡◌, ℕ, suc, ◌+◌, ◌≤◌, Bool, true, false, ◌==◌, List, [], ◌∷◌, ◌++◌, Option, Some, None, refl, sym, ap, ◌∙◌, arith, append_assoc}
 use Rattle.c_ast.specs.RawTree as raw
 use Rattle.c_ast.specs.RawTree.{RawExpression, RawCondition, RawDeclared, RawStatements}
 use Rattle.c_ast.specs.Tree as tree
 use Rattle.c_ast.specs.Tree.{Expression, Statements}
 use Rattle.c_ast.specs.Formed.{one_if, is_mark, marks}
-use Rattle.c_check.specs.Contents.{declared_in, loops_in}
+use Rattle.c_check.specs.Contents.{loops_in}
 use Rattle.c_check.specs.Resolves.{Bindings, binding, Counts, one_variable_more, one_loop_more, behind, begins_with_mark, loop_mark, named_mark, first_automatic, followed_by, scope_in_for, Resolves, none, declared, declares, initialises, assigns, branches, chooses, while_loop, do_loop, for_loop, breaks, continues, returns, block, empty}
 use Rattle.c_check.specs.Resolves as resolves
-use Rattle.c_check.specs.Occurrences.{Names, Occurrence, Use, Declaration, Jump, Marked, uses_in, uses_in_option, marked_option, uses_in_condition, uses_in_condition_option, with_names, names_in_for, in_declarators, occurrences}
+use Rattle.c_check.specs.Occurrences.{Names, Occurrence, Use, Declaration, Jump, Marked, uses_in, marked_option, uses_in_condition, uses_in_condition_option, with_names, names_in_for, in_declarators, occurrences}
 use Rattle.c_check.proofs.Counting.{Once, once_none, once_then, once_one, once_until, number_is}
 
 -- how often the mark is named

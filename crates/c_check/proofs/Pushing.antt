@@ -1,18 +1,18 @@
 -- Statements of the program that are pushed one after the other.
-use Rattle.std.proofs.Common.{◌≡◌, ℕ, List, [], ◌∷◌, ◌++◌, length, Option, Some, None, Result, Ok, Err, refl, sym, ap, ◌∙◌, rules, pos}
+use Rattle.std.proofs.Common.{◌≡◌, ℕ, List, [], ◌∷◌, ◌++◌, length, Option, Some, None, Result, Ok, Err, refl, sym, ap, ◌∙◌, pos}
 use Rattle.std.specs.Prelude.{option_map}
 use Rattle.c_ast.specs.declared.expr.Expr.{Expr, Num, fold_out-Expr, map-Expr}
 use Rattle.c_ast.specs.declared.expr.Expr.TheOpen.{Expr-F}
 use Rattle.c_ast.specs.declared.expr.Expr.TheVariants.{outs-Num}
 use Rattle.c_ast.specs.declared.stmt.Stmt.{Stmt, Set}
-use Rattle.c_ast.specs.RawTree.{RawStatements, RawDeclared}
+use Rattle.c_ast.specs.RawTree.{RawDeclared}
 use Rattle.c_ast.specs.Tree as tree
 use Rattle.c_ast.specs.Tree.{Expression, Statements}
 use Rattle.c_ast.specs.View.{expression_level, expression_of, put_in_front, statements_of}
 use Rattle.c_ast.proofs.Fronts.{front-Set}
 use Rattle.c_check.specs.declared.fault.CheckFault.{CheckFault}
 use Rattle.c_check.specs.declared.resolver.Resolver.{Resolver}
-use Rattle.c_check.specs.Resolving.{and_then, scope_at, declared_at, initial_value, Made, made, with_front, begun, declarators_at, statements_at, joined_to, Puts, Pushes, Declares}
+use Rattle.c_check.specs.Resolving.{and_then, scope_at, declared_at, initial_value, Made, made, with_front, begun, declarators_at, joined_to, Declares}
 
 pub joined_to-push : (before : List Stmt) (stmt : Stmt) (others : Statements) → joined_to (before ++ stmt ∷ []) others ≡ joined_to before (put_in_front stmt others)
 joined_to-push [] stmt others = refl

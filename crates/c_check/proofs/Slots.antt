@@ -1,5 +1,5 @@
 -- The table of the program finds what its blocks declare.
-use Rattle.std.proofs.Common.{◌≡◌, ℕ, ◌<◌, Bool, true, false, cond, ◌||◌, List, [], ◌∷◌, ◌++◌, length, map, reverse, Option, Some, None, nat_eq, String, HashMap, IsSome, rules, refl, sym, ap, ◌∙◌, subst, arith}
+use Rattle.std.proofs.Common.{◌≡◌, ℕ, ◌<◌, Bool, true, false, cond, ◌||◌, List, [], ◌∷◌, ◌++◌, length, map, reverse, Option, Some, None, nat_eq, String, HashMap, IsSome, rules, refl, sym, ap, ◌∙◌, arith}
 use Rattle.std.specs.Prelude.{slice_set, option_map, find, bytes_eq, string_bytes}
 use Rattle.std.specs.HashMap.{get_by_text}
 use Rattle.std.specs.Map.{update}
@@ -8,10 +8,9 @@ use Rattle.std.proofs.lemmas.List.{reverse-append, length-reverse, length-map}
 use Rattle.c_check.specs.declared.table.Slot.{Slot}
 use Rattle.c_check.specs.declared.table.Entry.{Entry}
 use Rattle.c_check.specs.Resolves.{Binding, Bindings, number_of}
-use Rattle.c_check.specs.Occurrences.{Names}
 use Rattle.c_check.specs.Faults.{holds_name}
-use Rattle.c_check.specs.Table.{Table, in_all, scope_of, names_of, block_names}
-use Rattle.c_check.specs.Entries.{binding_of, NamedSlot, named, slots_in, slot_of, slots_of, HasHidden, HaveHidden, turned, table_of, IsTable}
+use Rattle.c_check.specs.Table.{in_all, names_of}
+use Rattle.c_check.specs.Entries.{binding_of, NamedSlot, named, slots_in, slot_of, slots_of, turned, IsTable}
 
 -- ---- what a name stands for
 

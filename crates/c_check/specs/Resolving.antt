@@ -14,7 +14,7 @@ use Rattle.c_check.specs.declared.resolver.Resolver.{Resolver}
 use Rattle.c_check.specs.Resolves.{Bindings, Counts, binding, number_of, loop_mark, named_mark, followed_by}
 use Rattle.c_check.specs.Occurrences.{Declaration, Jump, Marked}
 use Rattle.c_check.specs.Faults.{fault_of}
-use Rattle.c_check.specs.Table.{Table, scope_of, block_names, entered_table, left_table, with_binding, nothing_in_scope}
+use Rattle.c_check.specs.Table.{scope_of, block_names, entered_table, left_table, with_binding, nothing_in_scope}
 
 -- what goes on where there is no fault
 abbrev pub and_then : {A B : Type 0} → Result A CheckFault → (A → Result B CheckFault) → Result B CheckFault

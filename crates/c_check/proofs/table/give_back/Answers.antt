@@ -1,5 +1,5 @@
 -- The map changes at this name alone.
-use Rattle.std.proofs.Common.{rules, Some, None}
+use Rattle.std.proofs.Common.{Some, None}
 use Rattle.std.proofs.lemmas.Map.Text.{hash_map_updates_text}
 use Rattle.c_check.proofs.table.give_back.Goals as goal
 

@@ -4,7 +4,6 @@ use Rattle.std.proofs.lemmas.List.Elements.{All-head}
 use Rattle.c_ast.specs.RawTree.{RawFunction}
 use Rattle.c_ast.specs.RawShape.{IsShaped}
 use Rattle.c_ast.specs.RawView.{raw_function_of}
-use Rattle.c_ast.specs.declared.raw.RawFunc.{RawFunc}
 use Rattle.c_check.proofs.Answering.{one_of}
 use Rattle.c_check.proofs.unit.check.Goals as goal
 

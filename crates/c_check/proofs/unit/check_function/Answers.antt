@@ -1,5 +1,5 @@
 -- The answer is the function's, or the first fault.
-use Rattle.std.proofs.Common.{◌≡◌, ◌≤◌, List, length, arith, ap, ◌∙◌}
+use Rattle.std.proofs.Common.{◌≤◌, length, arith, ap, ◌∙◌}
 use Rattle.c_ast.specs.RawView.{raw_function_of}
 use Rattle.c_ast.specs.View.{statements_of}
 use Rattle.c_ast.specs.Function.{function}

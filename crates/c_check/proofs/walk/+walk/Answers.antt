@@ -1,12 +1,12 @@
 -- Each kind of statement is gone over as its tree is.
-use Rattle.std.proofs.Common.{rules, ◌≡◌, ◌∙◌, ap, sym, None, List, [], drop, ℕ, Option}
+use Rattle.std.proofs.Common.{◌≡◌, ◌∙◌, ap, List, [], drop}
 use Rattle.std.specs.Prelude.{option_map}
 use Rattle.std.proofs.lemmas.List.{drop_all}
 use Rattle.c_ast.specs.declared.raw.RawStmt.{RawStmt}
-use Rattle.c_ast.specs.declared.stmt.Stmt.{Stmt, If, Break, Continue, Return, Mark, Block}
+use Rattle.c_ast.specs.declared.stmt.Stmt.{If, Break, Continue, Return, Mark, Block}
 use Rattle.c_ast.specs.RawTree as raw
 use Rattle.c_ast.specs.RawTree.{RawStatements}
-use Rattle.c_ast.specs.RawView.{raw_put_in_front, raw_expression_of, raw_condition_of, raw_one, raw_optional, raw_branches, raw_statements_of, raw_declared_of}
+use Rattle.c_ast.specs.RawView.{raw_put_in_front, raw_expression_of, raw_condition_of, raw_one, raw_optional, raw_branches, raw_statements_of}
 use Rattle.c_check.specs.Resolves.{loop_mark, named_mark}
 use Rattle.c_check.specs.Resolving.{statements_at, with_front, joined_to}
 use Rattle.c_check.proofs.RawFronts.{front-Declare, front-Assign, front-If, front-While, front-Do, front-For, front-Break, front-Continue, front-Return, front-Mark, front-Block}

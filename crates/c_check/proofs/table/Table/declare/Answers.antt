@@ -1,13 +1,13 @@
 -- The variable becomes the newest of its name, and is put last into its block.
-use Rattle.std.proofs.Common.{◌≡◌, ℕ, List, [], ◌∷◌, ◌++◌, length, reverse, Option, Some, sym, ap, ◌∙◌, subst}
-use Rattle.std.specs.Prelude.{option_copied, string_bytes, bytes_eq}
+use Rattle.std.proofs.Common.{◌≡◌, ℕ, List, [], ◌∷◌, ◌++◌, length, reverse, Some, sym, ap, ◌∙◌}
+use Rattle.std.specs.Prelude.{string_bytes, bytes_eq}
 use Rattle.std.specs.HashMap.{get_by_text}
 use Rattle.std.specs.Map.{update}
 use Rattle.std.proofs.lemmas.Map.Text.{hash_map_updates_text}
 use Rattle.std.proofs.lemmas.List.{reverse-append}
 use Rattle.c_check.specs.declared.table.Entry.{Entry}
 use Rattle.c_check.specs.declared.table.Slot.{Slot}
-use Rattle.c_check.specs.Entries.{turned, table_of, IsTable}
+use Rattle.c_check.specs.Entries.{turned}
 use Rattle.c_check.proofs.Slots.{declares, restores, length-turned}
 use Rattle.c_check.proofs.table.Table.declare.Goals as goal
 

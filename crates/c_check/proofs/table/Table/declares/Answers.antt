@@ -1,8 +1,7 @@
 -- What a name stands for lies in the innermost block or in one around it.
 use Rattle.std.proofs.Common.{◌≡◌, ℕ, List, ◌∷◌, Some, None, reverse, subst, sym, ap, ◌∙◌}
-use Rattle.std.specs.Prelude.{option_map, option_copied}
+use Rattle.std.specs.Prelude.{option_copied}
 use Rattle.std.specs.HashMap.{get_by_text}
-use Rattle.c_check.specs.declared.table.Slot.{Slot}
 use Rattle.c_check.specs.Entries.{turned, slot_of, slots_of}
 use Rattle.c_check.proofs.Slots.{declares_some, declares_none, length-turned}
 use Rattle.c_check.proofs.table.Table.declares.Goals as goal

@@ -1,5 +1,5 @@
 -- Each entry that is taken away gives back what it hides.
-use Rattle.std.proofs.Common.{◌≡◌, List, ◌∷◌, [], ◌++◌, reverse, ap, ◌∙◌, subst}
+use Rattle.std.proofs.Common.{◌≡◌, List, ◌∷◌, [], reverse, ap, ◌∙◌, subst}
 use Rattle.std.proofs.lemmas.List.{reverse-append}
 use Rattle.c_check.specs.declared.table.Entry.{Entry}
 use Rattle.c_check.specs.Entries.{turned, IsTable}
