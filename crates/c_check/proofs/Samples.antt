@@ -1,5 +1,5 @@
 -- The definitions on small functions.
-use Rattle.std.proofs.Common.{◌≡◌, ℕ, true, [], ◌∷◌, List, map, Option, Some, None, pos, refl}
+use Rattle.std.proofs.Common.{◌≡◌, ℕ, true, [], ◌∷◌, List, Some, None, pos, refl}
 use Rattle.std.specs.Prelude.{codes}
 use Rattle.c_ast.specs.declared.expr.BinOp.TheVariants.{Add, Less, Equal}
 use Rattle.c_ast.specs.declared.func.Var.{Var}
@@ -8,9 +8,8 @@ use Rattle.c_ast.specs.RawTree.{RawExpression, RawCondition, RawDeclared, RawSta
 use Rattle.c_ast.specs.Tree as tree
 use Rattle.c_ast.specs.Tree.{Statements}
 use Rattle.c_check.specs.declared.fault.CheckFault.TheVariants as fault
-use Rattle.c_check.specs.Contents.{declared_in}
-use Rattle.c_check.specs.Resolves.{ResolvesExpression, constant, variable, binary, stands, Resolves, none, declared, declares, initialises, assigns, branches, while_loop, for_loop, continues, returns, block}
-use Rattle.c_check.specs.Checked.{fault_in, variables_of, parameters_of, before_body}
+use Rattle.c_check.specs.Resolves.{constant, variable, binary, stands, Resolves, none, declared, initialises, assigns, branches, while_loop, for_loop, continues, returns, block}
+use Rattle.c_check.specs.Checked.{fault_in, parameters_of, before_body}
 
 -- each on the line 1
 abbrev var : List ℕ → Var

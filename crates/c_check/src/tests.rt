@@ -24,13 +24,13 @@ fn function(alloc: Global, params: Items<Var>, body: Items<RawStmt>) -> Result<R
     })
 }
 
-/// The answer to a file of one function.
-fn answer(alloc: Global, params: Items<Var>, body: Items<RawStmt>) -> Result<Func, CheckFault>
+/// The answer to a file of one function with so many parameters.
+fn answer(alloc: Global, count: u32, body: Items<RawStmt>) -> Result<String, AllocError>
     requires { AreShaped (raw_statements_of body) }
 {
     let mut funcs = Items::new(alloc);
-    funcs.push(function(alloc, params, body)?)?;
-    check(alloc, RawUnit { funcs })
+    funcs.push(function(alloc, many(alloc, count)?, body)?)?;
+    shown(alloc, check(alloc, RawUnit { funcs }))
 }
 
 /// So many parameters of different names.
@@ -115,44 +115,44 @@ fn files_hold_one_function(rt: HostRuntime) -> Result<(), Fail> {
 fn faults_are_found(rt: HostRuntime) -> Result<(), Fail> {
     let alloc = rt.alloc();
     let rows = [
-        (64, Items::new(alloc), "[]"),
-        (65, Items::new(alloc), "ManyVariables(65)"),
+        (answer(alloc, 64, Items::new(alloc))?, "[]"),
+        (answer(alloc, 65, Items::new(alloc))?, "ManyVariables(65)"),
         (
-            64,
-            declaration(alloc, 3)?,
+            answer(alloc, 64, declaration(alloc, 3)?)?,
             "Twice { name: Name(\"a0\"), line: 3 }",
         ),
-        (0, one(alloc, RawStmt::Break(4))?, "Outside { line: 4 }"),
         (
-            0,
-            two(alloc, RawStmt::Mark(5), RawStmt::Mark(5))?,
+            answer(alloc, 0, one(alloc, RawStmt::Break(4))?)?,
+            "Outside { line: 4 }",
+        ),
+        (
+            answer(alloc, 0, two(alloc, RawStmt::Mark(5), RawStmt::Mark(5))?)?,
             "MarkTwice(5)",
         ),
         (
-            0,
-            two(alloc, RawStmt::Mark(999_999), RawStmt::Mark(1_000_000))?,
+            answer(
+                alloc,
+                0,
+                two(alloc, RawStmt::Mark(999_999), RawStmt::Mark(1_000_000))?,
+            )?,
             "MarkRange(1000000)",
         ),
         (
-            1,
-            turning(alloc, None)?,
+            answer(alloc, 1, turning(alloc, None)?)?,
             "[Loop { mark: None, cond: Var(0), body: Items { items: [Mark(5)] }, step: Items { items: [] }, test_first: true }]",
         ),
-        (1, turning(alloc, Some(5))?, "MarkTwice(5)"),
+        (answer(alloc, 1, turning(alloc, Some(5))?)?, "MarkTwice(5)"),
         (
-            1,
-            turning(alloc, Some(6))?,
+            answer(alloc, 1, turning(alloc, Some(6))?)?,
             "[Loop { mark: Some(6), cond: Var(0), body: Items { items: [Mark(5)] }, step: Items { items: [] }, test_first: true }]",
         ),
         (
-            0,
-            turning(alloc, Some(7))?,
+            answer(alloc, 0, turning(alloc, Some(7))?)?,
             "Undeclared { name: Name(\"a0\"), line: 1 }",
         ),
     ];
-    for (count, body, want) in rows {
-        let text = shown(alloc, answer(alloc, many(alloc, count)?, body))?;
-        assert_eq!(rt; text.as_str(), want, "{count}");
+    for (text, want) in rows {
+        assert_eq!(rt; text.as_str(), want);
     }
     Ok(())
 }

@@ -250,6 +250,7 @@ fn assignment(
     Ok(Stmt::Set(number, value))
 }
 
+/// Goes over a list of statements.
 #[cycle(walk)]
 pub(crate) fn items(
     alloc: Global,
