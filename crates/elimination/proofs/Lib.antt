@@ -11,3 +11,6 @@ pub mod Making
 pub mod Narrowness
 pub mod Answering
 mod Samples
+pub mod Merging
+pub mod Tables
+pub mod Gcds

@@ -3,3 +3,4 @@ pub mod Column
 pub mod Joining
 pub mod Eliminated
 pub mod Laws
+pub mod Sparse

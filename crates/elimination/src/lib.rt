@@ -8,7 +8,9 @@
 #![tactic(auto)]
 
 mod answer;
+mod divisor;
 mod laws;
+mod multipliers;
 
 pub use answer::{Answer, Limit};
 pub use laws::{law_of_limits, law_of_points, law_of_refutability, law_of_refutations};
