@@ -20,7 +20,7 @@ use Rattle.elimination.specs.Laws.{HasPoint}
 use Rattle.elimination.proofs.Lists.{all_weaker}
 use Rattle.elimination.proofs.Points.{MeetsEach, entry-combined, sign-mul, zero_is, size_of_negative}
 use Rattle.elimination.proofs.Primitive.{entry-primitive}
-use Rattle.elimination.proofs.Joining.{HasWidePoint, columns_back, eliminate_err, list_of_back}
+use Rattle.elimination.proofs.PointsOfLists.{HasWidePoint, columns_back, eliminate_err, list_of_back}
 use Rattle.elimination.proofs.Keeping.{Holding, Joins, list_of_holds, Steps, projected_has}
 
 -- ---- columns that are gone, where those before j are eliminated of n

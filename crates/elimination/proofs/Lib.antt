@@ -2,9 +2,9 @@ pub mod Lists
 pub mod Points
 pub mod Best
 pub mod Pivots
-pub mod Column
+pub mod CarriedBack
 pub mod Primitive
-pub mod Joining
+pub mod PointsOfLists
 pub mod Keeping
 pub mod Deciding
 pub mod Making
@@ -14,3 +14,4 @@ mod Samples
 pub mod Merging
 pub mod Tables
 pub mod Gcds
+pub mod Places

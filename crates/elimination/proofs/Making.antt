@@ -19,7 +19,7 @@ use Rattle.elimination.specs.Joining.{divided, primitive, has_no_variable, allow
 use Rattle.elimination.specs.Eliminated.{initial, eliminate}
 use Rattle.elimination.proofs.Points.{entry-combined, zero_is}
 use Rattle.elimination.proofs.Primitive.{IsDivisor, divisor_of, get_or-quotients, get_or_divides}
-use Rattle.elimination.proofs.Joining.{and_true}
+use Rattle.elimination.proofs.PointsOfLists.{and_true}
 use Rattle.elimination.proofs.Keeping.{Holding, Joins, Steps, new_list_holds, eliminate_holds}
 
 -- ---- what it means that multipliers make a row

@@ -4,3 +4,5 @@ pub mod Joining
 pub mod Eliminated
 pub mod Laws
 pub mod Sparse
+pub mod Working
+pub mod Outcome

@@ -8,7 +8,10 @@
 #![tactic(auto)]
 
 mod answer;
+mod column;
+mod combination;
 mod divisor;
+mod joining;
 mod laws;
 mod multipliers;
 

@@ -43,6 +43,7 @@ impl Model for Multipliers {
 }
 
 /// How often each of two rows is taken in their sum.
+#[derive(Debug, Drop)]
 pub struct Weights {
     pub first: i128,
     pub second: i128,
@@ -292,5 +293,16 @@ impl Multipliers {
     {
         let made = scaled_list(alloc, times, self.count, self.entries.as_slice())?;
         Ok(Items::from_vec(made))
+    }
+
+    /// The same multipliers once more.
+    pub fn copy(&self, alloc: Global) -> Result<Multipliers, AllocError>
+        ensures { IfOk result (λ made. made ≡ self.now) }
+    {
+        let entries = Items::from_slice(alloc, self.entries.as_slice())?;
+        Ok(Multipliers {
+            count: self.count,
+            entries,
+        })
     }
 }

@@ -1,0 +1,93 @@
+//! One column is eliminated.
+ghost use Rattle.std.specs.Prelude.{◌≡◌, ℕ, ◌<◌, IfOk, IsTrue, Bool, false, map, All, length, position, neg_ℤ, ◌*ℤ◌, List, Ok, ◌∷◌, [], filter};
+ghost use Rattle.lin_terms.specs.Row.{IsNarrow};
+ghost use Rattle.elimination.specs.Combination.{Combination, entry, is_zero, is_positive, is_negative, sign, size};
+ghost use Rattle.elimination.specs.Column.{is_pivot, reduced, paired, without, lower_bounds, upper_bounds, pairs};
+ghost use Rattle.elimination.specs.Joining.{joined_each};
+ghost use Rattle.elimination.specs.Working.{IsWorking};
+ghost use Rattle.elimination.specs.Outcome.{IsOutcome};
+
+use crate::answer::Stop;
+use crate::combination::{Combination, combined, is_negative, is_positive, is_zero};
+use crate::joining::join;
+use crate::multipliers::Weights;
+use sqlite_items::Items;
+use std::alloc::{AllocError, Global};
+
+/// How often a row and the pivot are taken so that the column vanishes from their sum.
+fn reducing(pivot: &i128, entry: &i128) -> Weights
+    requires pivot_narrow { IsNarrow pivot.now }
+    requires entry_narrow { IsNarrow entry.now }
+    ensures first { result.first ≡ size pivot.now }
+    ensures second { result.second ≡ neg_ℤ (sign pivot.now *ℤ entry.now) }
+{
+    Weights {
+        first: pivot.abs(),
+        second: if is_zero(pivot) {
+            0
+        } else if is_positive(pivot) {
+            -*entry
+        } else {
+            *entry
+        },
+    }
+}
+
+/// How often a lower and an upper bound are taken so that the column vanishes from their sum.
+fn pairing(lower: &i128, upper: &i128) -> Weights
+    requires { IsNarrow upper.now }
+    ensures first { result.first ≡ size upper.now }
+    ensures second { result.second ≡ lower.now }
+{
+    Weights {
+        first: upper.abs(),
+        second: *lower,
+    }
+}
+
+fn is_pivot(row: &Combination, j: usize) -> bool
+    ensures { result ≡ is_pivot j row.now }
+{
+    row.is_equality() && !is_zero(row.entry(j))
+}
+
+/// The place of the first equality that has the column.
+fn pivot_place(rows: &[Combination], j: usize) -> Option<usize>
+    ensures { result ≡ position (is_pivot j) rows.now }
+{
+    rows.iter().position(|row| is_pivot(row, j))
+}
+
+/// The row without the column, by an equality that has it.
+fn reduce(
+    alloc: Global,
+    j: usize,
+    pivot: &Combination,
+    row: &Combination,
+) -> Result<Combination, AllocError>
+    requires { (columns : ℕ) × (given : ℕ) × IsWorking columns given pivot.now × IsWorking columns given row.now }
+    ensures { IfOk result (λ made. made ≡ reduced j pivot.now row.now) }
+{
+    if is_zero(row.entry(j)) {
+        let same = row.copy(alloc)?;
+        return Ok(same);
+    }
+    let weights = reducing(pivot.entry(j), row.entry(j));
+    let made = combined(alloc, &weights, row, pivot)?;
+    Ok(made)
+}
+
+/// A lower and an upper bound, added so that the column vanishes.
+fn pair(
+    alloc: Global,
+    j: usize,
+    lower: &Combination,
+    upper: &Combination,
+) -> Result<Combination, AllocError>
+    requires { (columns : ℕ) × (given : ℕ) × IsWorking columns given lower.now × IsWorking columns given upper.now }
+    ensures { IfOk result (λ made. made ≡ paired j lower.now upper.now) }
+{
+    let weights = pairing(lower.entry(j), upper.entry(j));
+    let made = combined(alloc, &weights, lower, upper)?;
+    Ok(made)
+}
