@@ -15,3 +15,5 @@ pub mod Merging
 pub mod Tables
 pub mod Gcds
 pub mod Places
+pub mod Sizes
+pub mod Stepping

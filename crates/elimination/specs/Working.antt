@@ -27,3 +27,10 @@ IsSmall number = unsigned_abs number < 2 ^ 126
 -- All numbers of the row are small.
 abbrev pub IsSmallCombination : Combination → Type 0
 IsSmallCombination row = All IsSmall (numbers_of row)
+
+-- Two rows are of one shape, and narrow, so that their multiples may be added.
+pub record AreWorking (first second : Combination) : Type 0 where
+  pub coefs : length first.row.coefs ≡ length second.row.coefs
+  pub multipliers : length first.multipliers ≡ length second.multipliers
+  pub first_narrow : IsNarrowCombination first
+  pub second_narrow : IsNarrowCombination second

@@ -3,8 +3,8 @@ ghost use Rattle.std.specs.Prelude.{◌≡◌, ℕ, ◌<◌, IfOk, IsTrue, Bool,
 ghost use Rattle.lin_terms.specs.Row.{IsNarrow};
 ghost use Rattle.elimination.specs.Combination.{Combination, entry, is_zero, is_positive, is_negative, sign, size};
 ghost use Rattle.elimination.specs.Column.{is_pivot, reduced, paired, without, lower_bounds, upper_bounds, pairs};
-ghost use Rattle.elimination.specs.Joining.{joined_each};
-ghost use Rattle.elimination.specs.Working.{IsWorking};
+ghost use Rattle.elimination.specs.Joining.{joined, joined_each};
+ghost use Rattle.elimination.specs.Working.{AreWorking, IsNarrowCombination};
 ghost use Rattle.elimination.specs.Outcome.{IsOutcome};
 
 use crate::answer::Stop;
@@ -65,7 +65,7 @@ fn reduce(
     pivot: &Combination,
     row: &Combination,
 ) -> Result<Combination, AllocError>
-    requires { (columns : ℕ) × (given : ℕ) × IsWorking columns given pivot.now × IsWorking columns given row.now }
+    requires { AreWorking pivot.now row.now }
     ensures { IfOk result (λ made. made ≡ reduced j pivot.now row.now) }
 {
     if is_zero(row.entry(j)) {
@@ -84,10 +84,129 @@ fn pair(
     lower: &Combination,
     upper: &Combination,
 ) -> Result<Combination, AllocError>
-    requires { (columns : ℕ) × (given : ℕ) × IsWorking columns given lower.now × IsWorking columns given upper.now }
+    requires { AreWorking lower.now upper.now }
     ensures { IfOk result (λ made. made ≡ paired j lower.now upper.now) }
 {
     let weights = pairing(lower.entry(j), upper.entry(j));
     let made = combined(alloc, &weights, lower, upper)?;
     Ok(made)
+}
+
+fn join_copy(
+    alloc: Global,
+    cap: u32,
+    row: &Combination,
+    rows: &mut Items<Combination>,
+) -> Result<(), Stop>
+    requires { IsNarrowCombination row.now }
+    ensures { IsOutcome (joined cap rows.old row.now) result rows.new }
+{
+    let same = row.copy(alloc)?;
+    join(alloc, cap, rows, same)
+}
+
+fn join_pair(
+    alloc: Global,
+    cap: u32,
+    j: usize,
+    lower: &Combination,
+    upper: &Combination,
+    rows: &mut Items<Combination>,
+) -> Result<(), Stop>
+    requires { AreWorking lower.now upper.now }
+    ensures { IsOutcome (joined cap rows.old (paired j lower.now upper.now)) result rows.new }
+{
+    let made = pair(alloc, j, lower, upper)?;
+    join(alloc, cap, rows, made)
+}
+
+fn join_reduced(
+    alloc: Global,
+    cap: u32,
+    j: usize,
+    pivot: &Combination,
+    row: &Combination,
+    rows: &mut Items<Combination>,
+) -> Result<(), Stop>
+    requires { AreWorking pivot.now row.now }
+    ensures { IsOutcome (joined cap rows.old (reduced j pivot.now row.now)) result rows.new }
+{
+    let made = reduce(alloc, j, pivot, row)?;
+    join(alloc, cap, rows, made)
+}
+
+/// The rows without the column join, in order.
+fn join_flats(
+    alloc: Global,
+    cap: u32,
+    j: usize,
+    old: &[Combination],
+    rows: &mut Items<Combination>,
+) -> Result<(), Stop>
+    requires { All IsNarrowCombination old.now }
+    ensures { IsOutcome (joined_each cap (Ok rows.old) (without j old.now)) result rows.new }
+{
+    for row in old {
+        if is_zero(row.entry(j)) {
+            join_copy(alloc, cap, row, rows)?;
+        }
+    }
+    Ok(())
+}
+
+/// The pairs of a lower bound with each upper bound join, in order.
+fn join_pairs_of(
+    alloc: Global,
+    cap: u32,
+    j: usize,
+    lower: &Combination,
+    old: &[Combination],
+    rows: &mut Items<Combination>,
+) -> Result<(), Stop>
+    requires { All (AreWorking lower.now) old.now }
+    ensures { IsOutcome (joined_each cap (Ok rows.old) (map (paired j lower.now) (upper_bounds j old.now))) result rows.new }
+{
+    for upper in old {
+        if is_negative(upper.entry(j)) {
+            join_pair(alloc, cap, j, lower, upper, rows)?;
+        }
+    }
+    Ok(())
+}
+
+/// The pairs of each lower bound with each upper bound join, in order.
+fn join_pairs(
+    alloc: Global,
+    cap: u32,
+    j: usize,
+    old: &[Combination],
+    rows: &mut Items<Combination>,
+) -> Result<(), Stop>
+    requires { All (λ lower. All (AreWorking lower) old.now) old.now }
+    ensures { IsOutcome (joined_each cap (Ok rows.old) (pairs j (lower_bounds j old.now) (upper_bounds j old.now))) result rows.new }
+{
+    for lower in old {
+        if is_positive(lower.entry(j)) {
+            join_pairs_of(alloc, cap, j, lower, old, rows)?;
+        }
+    }
+    Ok(())
+}
+
+/// The rows join without the column, by an equality that has it, in order.
+fn join_each_reduced(
+    alloc: Global,
+    cap: u32,
+    j: usize,
+    pivot: &Combination,
+    some: &[Combination],
+    rows: &mut Items<Combination>,
+) -> Result<(), Stop>
+    requires { All (AreWorking pivot.now) some.now }
+    ensures { IsOutcome (joined_each cap (Ok rows.old) (map (reduced j pivot.now) some.now)) result rows.new }
+{
+    for row in some {
+        join_reduced(alloc, cap, j, pivot, row, rows)?;
+    }
+    Ok(())
 }
