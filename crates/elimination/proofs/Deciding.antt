@@ -79,7 +79,7 @@ NothingOf multipliers = Unit {0}
 
 gone_joins : (n j : ℕ) (row : Combination) → HasGone n j row → Joins (IsLeft n j) NothingOf (primitive row)
 gone_joins n j row has_gone = record {
-  kept = λ variable. ((λ i gone. entry-primitive i row (has_gone i gone)), variable);
+  kept = λ narrow variable. ((λ i gone. entry-primitive i row (has_gone i gone)), variable);
   failed = λ narrow no_variable fails. tt;
 }
 

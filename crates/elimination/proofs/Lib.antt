@@ -17,3 +17,5 @@ pub mod Gcds
 pub mod Places
 pub mod Sizes
 pub mod Stepping
+pub mod Uniform
+pub mod Picking

@@ -221,7 +221,7 @@ made_joins given row made =
     let all = made_primitive given row made in
     let joins : Combination = primitive row in
     record {
-      kept = λ variable. all;
+      kept = λ narrow variable. all;
       failed = λ narrow no_variable fails.
           contradicted given joins.multipliers (λ j. all.columns j ∙ entry_none joins.row.coefs j no_variable) joins.row.equality joins.row.constant all.signs all.constant fails;
     }

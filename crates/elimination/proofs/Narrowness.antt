@@ -48,7 +48,7 @@ narrow_joins : (row : Combination) → Anything row → Joins Anything AreNarrow
 narrow_joins row anything =
     let joins : Combination = primitive row in
     record {
-      kept = λ variable. tt;
+      kept = λ narrow variable. tt;
       failed = λ narrow no_variable fails.
           narrow_turned (is_positive joins.row.constant) joins.multipliers (all_back IsNarrow joins.row.coefs joins.multipliers (narrow_numbers (numbers_of joins) narrow).1);
     }

@@ -34,3 +34,9 @@ pub record AreWorking (first second : Combination) : Type 0 where
   pub multipliers : length first.multipliers ≡ length second.multipliers
   pub first_narrow : IsNarrowCombination first
   pub second_narrow : IsNarrowCombination second
+
+-- All rows of the list are of one shape, and narrow.
+pub record AreUniform (rows : List Combination) : Type 0 where
+  pub columns : ℕ
+  pub given : ℕ
+  pub all : All (IsWorking columns given) rows

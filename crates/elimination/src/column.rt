@@ -1,10 +1,10 @@
 //! One column is eliminated.
-ghost use Rattle.std.specs.Prelude.{◌≡◌, ℕ, ◌<◌, IfOk, IsTrue, Bool, false, map, All, length, position, neg_ℤ, ◌*ℤ◌, List, Ok, ◌∷◌, [], filter};
+ghost use Rattle.std.specs.Prelude.{◌≡◌, ℕ, ◌<◌, IfOk, IsTrue, Bool, false, map, All, length, position, neg_ℤ, ◌*ℤ◌, List, Ok, ◌∷◌, ◌++◌, [], filter};
 ghost use Rattle.lin_terms.specs.Row.{IsNarrow};
 ghost use Rattle.elimination.specs.Combination.{Combination, entry, is_zero, is_positive, is_negative, sign, size};
-ghost use Rattle.elimination.specs.Column.{is_pivot, reduced, paired, without, lower_bounds, upper_bounds, pairs};
+ghost use Rattle.elimination.specs.Column.{is_pivot, reduced, paired, without, lower_bounds, upper_bounds, pairs, projected};
 ghost use Rattle.elimination.specs.Joining.{joined, joined_each};
-ghost use Rattle.elimination.specs.Working.{AreWorking, IsNarrowCombination};
+ghost use Rattle.elimination.specs.Working.{AreWorking, AreUniform, IsNarrowCombination};
 ghost use Rattle.elimination.specs.Outcome.{IsOutcome};
 
 use crate::answer::Stop;
@@ -209,4 +209,57 @@ fn join_each_reduced(
         join_reduced(alloc, cap, j, pivot, row, rows)?;
     }
     Ok(())
+}
+
+/// The rows before the pivot and those behind it join without the column.
+fn by_pivot(
+    alloc: Global,
+    cap: u32,
+    j: usize,
+    pivot: &Combination,
+    before: &[Combination],
+    behind: &[Combination],
+    rows: &mut Items<Combination>,
+) -> Result<(), Stop>
+    requires before { All (AreWorking pivot.now) before.now }
+    requires behind { All (AreWorking pivot.now) behind.now }
+    ensures { IsOutcome (joined_each cap (Ok rows.old) (map (reduced j pivot.now) (before.now ++ behind.now))) result rows.new }
+{
+    join_each_reduced(alloc, cap, j, pivot, before, rows)?;
+    join_each_reduced(alloc, cap, j, pivot, behind, rows)
+}
+
+/// The rows without the column join, and then the pairs of a lower and an upper bound.
+fn by_pairs(
+    alloc: Global,
+    cap: u32,
+    j: usize,
+    old: &[Combination],
+    rows: &mut Items<Combination>,
+) -> Result<(), Stop>
+    requires { AreUniform old.now }
+    ensures { IsOutcome (joined_each cap (Ok rows.old) (without j old.now ++ pairs j (lower_bounds j old.now) (upper_bounds j old.now))) result rows.new }
+{
+    join_flats(alloc, cap, j, old, rows)?;
+    join_pairs(alloc, cap, j, old, rows)
+}
+
+/// The rows that are left of the old ones without column j join a list.
+pub fn eliminate_column(
+    alloc: Global,
+    cap: u32,
+    j: usize,
+    old: &[Combination],
+    rows: &mut Items<Combination>,
+) -> Result<(), Stop>
+    requires { AreUniform old.now }
+    ensures { IsOutcome (joined_each cap (Ok rows.old) (projected j old.now)) result rows.new }
+{
+    match pivot_place(old, j) {
+        Some(at) => {
+            let (before, behind) = (&old[..at], &old[at + 1..]);
+            by_pivot(alloc, cap, j, &old[at], before, behind, rows)
+        }
+        None => by_pairs(alloc, cap, j, old, rows),
+    }
 }
