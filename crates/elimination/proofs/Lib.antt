@@ -19,3 +19,4 @@ pub mod Sizes
 pub mod Stepping
 pub mod Uniform
 pub mod Picking
+pub mod Ending

@@ -1,15 +1,17 @@
 //! Rows with the multipliers that make them of the given rows.
-ghost use Rattle.std.specs.Prelude.{◌≡◌, ◌↔◌, ℕ, ◌<◌, ◌≤◌, ◌^◌, ◌<ℤ◌, ◌+ℤ◌, ◌*ℤ◌, pos, map, max, unsigned_abs, All, IfOk, IsTrue, int_lt, length, slice_index_or};
+ghost use Rattle.std.specs.Prelude.{◌≡◌, ◌↔◌, ◌-◌, ℕ, ◌<◌, ◌≤◌, ◌^◌, ◌<ℤ◌, ◌+ℤ◌, ◌*ℤ◌, pos, map, max, unsigned_abs, All, IfOk, IsTrue, int_lt, length, slice_index_or};
 ghost use Rattle.std.specs.Int.{int_div_euclid};
 ghost use Rattle.lin_terms.specs.Divisor.{gcd_of, gcd_with};
 ghost use Rattle.lin_terms.specs.Row.{IsNarrow};
 ghost use Rattle.lin_terms.specs.Vectors.{plus, scaled};
 ghost use Rattle.elimination.specs.Combination.{entry, is_zero, is_positive, is_negative, combined};
 ghost use Rattle.elimination.specs.Joining.{numbers_of, divided, primitive, has_no_variable, allows, turned, is_parallel};
+ghost use Rattle.elimination.specs.Eliminated.{given_row};
 ghost use Rattle.elimination.specs.Working.{IsWorking, HasShape, IsNarrowCombination, IsSmallCombination};
 
 use crate::divisor::gcd_with_size;
 use crate::multipliers::{Multipliers, Weights, product};
+use lin_terms::Row;
 use sqlite_items::Items;
 use std::alloc::{AllocError, Global};
 use std::marker::Model;
@@ -142,7 +144,37 @@ fn quotients(alloc: Global, numbers: &[i128], divisor: &i128) -> Result<Vec<i128
     Ok(made)
 }
 
+fn widened(alloc: Global, numbers: &[i64]) -> Result<Vec<i128>, AllocError>
+    ensures { IfOk result (λ made. made.items ≡ numbers.now) }
+{
+    let mut made = Vec::with_capacity(alloc, numbers.len())?;
+    for number in numbers {
+        made.push(i128::from(*number))?;
+    }
+    Ok(made)
+}
+
 impl Combination {
+    /// A given row, which `before` of the `count` given rows stand before: its own multiplier is 1, the others are 0.
+    pub fn given(
+        alloc: Global,
+        row: &Row,
+        before: u32,
+        count: u32,
+    ) -> Result<Combination, AllocError>
+        requires { before < count }
+        ensures { IfOk result (λ made. made ≡ given_row before (count - before - 1) row.now) }
+    {
+        let coefs = widened(alloc, row.coefs.as_slice())?;
+        let multipliers = Multipliers::unit(alloc, before, count)?;
+        Ok(Combination {
+            coefs: Items::from_vec(coefs),
+            constant: i128::from(row.constant),
+            equality: row.equality,
+            multipliers,
+        })
+    }
+
     /// Its coefficient in a column, and 0 past the last.
     pub fn entry(&self, j: usize) -> &i128
         ensures { result.now ≡ entry j self.now }

@@ -14,6 +14,8 @@ mod divisor;
 mod joining;
 mod laws;
 mod multipliers;
+mod verdict;
 
 pub use answer::{Answer, Limit};
 pub use laws::{law_of_limits, law_of_points, law_of_refutability, law_of_refutations};
+pub use verdict::decide;
