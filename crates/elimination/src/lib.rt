@@ -14,6 +14,8 @@ mod divisor;
 mod joining;
 mod laws;
 mod multipliers;
+#[cfg(test)]
+mod tests;
 mod verdict;
 
 pub use answer::{Answer, Limit};

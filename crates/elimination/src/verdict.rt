@@ -18,7 +18,7 @@ use sqlite_items::Items;
 use std::alloc::Global;
 
 /// The number of columns of rows of one length.
-fn columns_of(given: &[Row]) -> usize
+pub fn columns_of(given: &[Row]) -> usize
     ensures { result ≡ columns_of given.now }
 {
     match given {
