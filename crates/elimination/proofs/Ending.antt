@@ -1,6 +1,6 @@
 -- The given rows join a list, columns are eliminated, and an answer stands at the end.
-use Rattle.std.proofs.Common.{◌≡◌, ℕ, zero, suc, ◌+◌, ◌-◌, ◌<◌, ◌≤◌, ◌^◌, List, [], ◌∷◌, ◌++◌, arith, refl, sym, ◌∙◌, ap, subst, length, get_or, drop, replicate, Result, Ok, Err}
-use Rattle.std.specs.Prelude.{ℤ, pos, All, unsigned_abs}
+use Rattle.std.proofs.Common.{◌≡◌, ℕ, zero, suc, ◌+◌, ◌-◌, ◌<◌, List, ◌∷◌, ◌++◌, arith, refl, sym, ◌∙◌, ap, subst, length, get_or, drop, replicate, Result, Ok, Err}
+use Rattle.std.specs.Prelude.{pos}
 use Rattle.std.specs.List.{AllByRecursion}
 use Rattle.std.proofs.lemmas.List.{drop_more}
 use Rattle.std.proofs.lemmas.List.Elements.{All-from_recursion}
@@ -32,7 +32,7 @@ narrow_given before behind row narrow = record {
   constant = narrow.constant;
   coefs = narrow.coefs;
   multipliers = All-from_recursion IsNarrow (replicate before (pos 0) ++ pos 1 ∷ replicate behind (pos 0))
-    (all_append IsNarrow (replicate before (pos 0)) (pos 1 ∷ replicate behind (pos 0)) (narrow_zeros before) (omega arith, narrow_zeros behind));
+      (all_append IsNarrow (replicate before (pos 0)) (pos 1 ∷ replicate behind (pos 0)) (narrow_zeros before) (omega arith, narrow_zeros behind));
 }
 
 pub small_given : (before behind : ℕ) (row : Row) → IsNarrowRow row → IsSmallCombination (given_row before behind row)

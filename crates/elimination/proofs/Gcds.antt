@@ -1,22 +1,22 @@
 -- Greatest common divisors of lists that are joined, or have the same divisors.
-use Rattle.std.proofs.Common.{◌≡◌, ◌↔◌, ℕ, zero, suc, ◌*◌, ◌/◌, ◌<◌, ◌≤◌, ◌^◌, max, List, [], ◌∷◌, ◌++◌, map, arith, refl, sym, ◌∙◌, ap, subst}
+use Rattle.std.proofs.Common.{◌≡◌, ℕ, zero, suc, ◌*◌, ◌/◌, ◌<◌, ◌≤◌, ◌^◌, max, List, [], ◌∷◌, ◌++◌, map, arith, refl, sym, ◌∙◌, ap, subst}
 use Prim.Native.Nat.{◌∣◌}
 use Rattle.std.specs.Prelude.{ℤ, pos, negsuc, ◌*ℤ◌, unsigned_abs, All}
 use Rattle.std.specs.List.{AllByRecursion}
 use Rattle.std.proofs.Math.Nat.{dvd-mul_right}
-use Rattle.std.proofs.lemmas.Nat.Gcd.{dvd_refl, dvd_trans, dvd-zero, dvd_antisymm, le_of_dvd}
+use Rattle.std.proofs.lemmas.Nat.Gcd.{dvd-zero, dvd_antisymm, le_of_dvd}
 use Rattle.std.proofs.lemmas.List.Elements.{All-from_recursion, recursion_from_All}
-use Rattle.lin_terms.specs.Divisor.{gcd_steps, gcd, gcd_with, gcd_of, IsGcdOf, floor_div}
+use Rattle.lin_terms.specs.Divisor.{gcd_steps, gcd, gcd_with, gcd_of, floor_div}
 use Rattle.lin_terms.proofs.Divisors.{DividesAll, gcd_is, gcd_of_divides, gcd_of_is}
 use Rattle.elimination.specs.declared.multipliers.Multiplier.{Multiplier}
-use Rattle.elimination.specs.Sparse.{at, table, IsRising}
+use Rattle.elimination.specs.Sparse.{table, IsRising}
 use Rattle.elimination.specs.Combination.{Combination}
 use Rattle.elimination.specs.Joining.{numbers_of, divided, primitive}
 use Rattle.elimination.specs.Working.{IsSmallCombination}
 use Rattle.lin_terms.specs.Vectors.{scaled}
 use Rattle.std.proofs.lemmas.Int.{ints}
 use Rattle.elimination.proofs.Lists.{all_front, all_back, all_append, all_map, all_of_map}
-use Rattle.elimination.proofs.Tables.{EntriesHave, entries_have, table_has}
+use Rattle.elimination.proofs.Tables.{entries_have, table_has}
 
 one_divides : (n : ℕ) → 1 ∣ n
 one_divides n = let e : 1 * n ≡ n = omega arith in subst (λ m. 1 ∣ m) e (dvd-mul_right 1 n)

@@ -1,5 +1,5 @@
 -- Sums of multiples of two lists of multipliers, row after row.
-use Rattle.std.proofs.Common.{◌≡◌, ◌⊎◌, ◌≢◌, ℕ, zero, suc, ◌+◌, ◌<◌, ◌≤◌, min, Bool, true, false, cond, eqb, List, [], ◌∷◌, ◌++◌, arith, refl, sym, ◌∙◌, ap, subst, inl, inr, length}
+use Rattle.std.proofs.Common.{◌≡◌, ◌⊎◌, ◌≢◌, ℕ, suc, ◌+◌, ◌<◌, ◌≤◌, min, Bool, true, false, cond, eqb, List, [], ◌∷◌, ◌++◌, arith, refl, sym, ◌∙◌, ap, subst, inl, inr, length}
 use Rattle.std.specs.Prelude.{ℤ, pos, ◌+ℤ◌, ◌*ℤ◌, All}
 use Rattle.std.proofs.lemmas.List.Elements.{All-tail}
 use Rattle.std.proofs.lemmas.Int.{ints}
@@ -53,7 +53,7 @@ no_front false = refl
 
 taken_case : (test : Bool) (entry : Multiplier) (entries : List Multiplier) (row other : ℕ) → eqb entry.row row ≡ test
     → cond (eqb entry.row other) entry.value (pos 0) +ℤ at entries other
-      ≡ cond (eqb row other) (cond test entry.value (pos 0)) (pos 0) +ℤ at (cond test entries (entry ∷ entries)) other
+    ≡ cond (eqb row other) (cond test entry.value (pos 0)) (pos 0) +ℤ at (cond test entries (entry ∷ entries)) other
 taken_case true entry entries row other is =
     ap (λ n. cond (eqb n other) entry.value (pos 0) +ℤ at entries other) (same_row entry.row row is)
 taken_case false entry entries row other is =
@@ -76,7 +76,7 @@ no_step o k p l q =
 
 step_case : (test : Bool) (o k p l q x y : ℤ)
     → (o +ℤ cond test ((k *ℤ x) +ℤ (l *ℤ y)) (pos 0)) +ℤ ((k *ℤ p) +ℤ (l *ℤ q))
-      ≡ o +ℤ ((k *ℤ (cond test x (pos 0) +ℤ p)) +ℤ (l *ℤ (cond test y (pos 0) +ℤ q)))
+    ≡ o +ℤ ((k *ℤ (cond test x (pos 0) +ℤ p)) +ℤ (l *ℤ (cond test y (pos 0) +ℤ q)))
 step_case true o k p l q x y = one_step o k p l q x y
 step_case false o k p l q x y = no_step o k p l q
 
@@ -137,7 +137,7 @@ shorter from count row (p ∷ ps) [] is ps_rising qs_rising some =
     omega (arith, length-taken row p ps first)
 shorter from count row (p ∷ ps) (q ∷ qs) is ps_rising qs_rising some =
     elim (which p.row q.row) [
-      inl first ↦ let at_p : row ≡ p.row = omega (arith, is, first) in omega (arith, length-taken row p ps at_p, length-behind row (q ∷ qs))
+      | inl first ↦ let at_p : row ≡ p.row = omega (arith, is, first) in omega (arith, length-taken row p ps at_p, length-behind row (q ∷ qs))
       | inr second ↦ let at_q : row ≡ q.row = omega (arith, is, second) in omega (arith, length-taken row q qs at_q, length-behind row (p ∷ ps))
     ]
   where
@@ -193,15 +193,15 @@ merging_step k l count row target made after ps qs value merging is some value_i
       ps_rising = rising_behind merging.from count row ps merging.ps_rising ps_after below;
       qs_rising = rising_behind merging.from count row qs merging.qs_rising qs_after below;
       sums = λ other.
-        let p = at (behind_row row ps) other in
-        let q = at (behind_row row qs) other in
-        let x = front_of row ps in
-        let y = front_of row qs in
-        ap (λ t. t +ℤ ((k *ℤ p) +ℤ (l *ℤ q))) (added.sums other ∙ ap (λ v. at made other +ℤ cond (eqb row other) v (pos 0)) value_is)
-        ∙ step_case (eqb row other) (at made other) k p l q x y
-        ∙ ap (λ t. at made other +ℤ ((k *ℤ t) +ℤ (l *ℤ (cond (eqb row other) y (pos 0) +ℤ q)))) (sym (at-behind ps row other))
-        ∙ ap (λ t. at made other +ℤ ((k *ℤ at ps other) +ℤ (l *ℤ t))) (sym (at-behind qs row other))
-        ∙ merging.sums other;
+          let p = at (behind_row row ps) other in
+          let q = at (behind_row row qs) other in
+          let x = front_of row ps in
+          let y = front_of row qs in
+          ap (λ t. t +ℤ ((k *ℤ p) +ℤ (l *ℤ q))) (added.sums other ∙ ap (λ v. at made other +ℤ cond (eqb row other) v (pos 0)) value_is)
+          ∙ step_case (eqb row other) (at made other) k p l q x y
+          ∙ ap (λ t. at made other +ℤ ((k *ℤ t) +ℤ (l *ℤ (cond (eqb row other) y (pos 0) +ℤ q)))) (sym (at-behind ps row other))
+          ∙ ap (λ t. at made other +ℤ ((k *ℤ at ps other) +ℤ (l *ℤ t))) (sym (at-behind qs row other))
+          ∙ merging.sums other;
     }
 
 -- the beginning and the end

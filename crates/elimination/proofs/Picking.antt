@@ -1,9 +1,8 @@
 -- The pivot, by its place.
-use Rattle.std.proofs.Common.{◌≡◌, ℕ, zero, suc, ◌+◌, ◌<◌, Bool, true, false, cond, List, [], ◌∷◌, ◌++◌, map, arith, refl, sym, ◌∙◌, ap, subst, length, get_or, take, drop, Option, Some, None, Result, Ok}
+use Rattle.std.proofs.Common.{◌≡◌, ℕ, zero, suc, ◌+◌, ◌<◌, Bool, true, false, cond, List, [], ◌∷◌, ◌++◌, map, arith, refl, sym, ◌∙◌, ap, length, get_or, take, drop, Option, Some, None, Ok}
 use Rattle.std.specs.Prelude.{position}
 use Rattle.std.specs.List.{position_from}
 use Rattle.std.proofs.lemmas.Iterator.Adapters.{position_from-zero}
-use Rattle.elimination.specs.declared.answer.Stop.{Stop}
 use Rattle.elimination.specs.Combination.{Combination}
 use Rattle.elimination.specs.Column.{is_pivot, behind, pivot_of, reduced, without, lower_bounds, upper_bounds, pairs, projected_by, projected}
 use Rattle.elimination.specs.Joining.{joined_each}

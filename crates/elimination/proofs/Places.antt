@@ -1,14 +1,14 @@
 -- Where a row is placed, and what a row that joins a list does.
-use Rattle.std.proofs.Common.{◌≡◌, ◌↔◌, ℕ, zero, suc, ◌+◌, ◌-◌, ◌<◌, ◌≤◌, ◌^◌, Bool, true, false, cond, not, List, [], ◌∷◌, ◌++◌, map, arith, refl, sym, ◌∙◌, ap, subst, length, get_or, set, Option, Some, None, Result, Ok, Err, IsTrue}
-use Rattle.std.specs.Prelude.{ℤ, pos, unsigned_abs, int_lt, nat_le, position, All, ◌||◌}
+use Rattle.std.proofs.Common.{◌≡◌, ◌↔◌, ℕ, zero, suc, ◌+◌, ◌<◌, ◌^◌, Bool, true, false, cond, not, List, [], ◌∷◌, ◌++◌, arith, refl, sym, ◌∙◌, ap, subst, length, get_or, set, Option, Some, None, Result, Err, IsTrue}
+use Rattle.std.specs.Prelude.{ℤ, unsigned_abs, int_lt, nat_le, position}
 use Rattle.std.specs.List.{AllByRecursion, position_from}
 use Rattle.std.proofs.lemmas.Iterator.Adapters.{position_from-zero}
 use Rattle.std.proofs.lemmas.Bool.Decides.{nat_tests}
 use Rattle.std.proofs.lemmas.List.Elements.{All-from_recursion, recursion_from_All}
 use Rattle.lin_terms.specs.Row.{IsNarrow}
 use Rattle.elimination.specs.declared.answer.Stop.{Stop}
-use Rattle.elimination.specs.declared.answer.Stop.TheVariants.{Contradiction, AtLimit}
-use Rattle.elimination.specs.declared.answer.Limit.TheVariants.{WideRow, ManyRows}
+use Rattle.elimination.specs.declared.answer.Stop.TheVariants.{AtLimit}
+use Rattle.elimination.specs.declared.answer.Limit.TheVariants.{WideRow}
 use Rattle.elimination.specs.Combination.{Combination}
 use Rattle.elimination.specs.Joining.{numbers_of, primitive, is_wide, has_no_variable, judged, is_parallel, tighter, placed, added, counted, admitted, joined}
 use Rattle.elimination.specs.Working.{IsNarrowCombination}

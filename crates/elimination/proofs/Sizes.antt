@@ -1,6 +1,6 @@
 -- How great the numbers of sums are.
-use Rattle.std.proofs.Common.{◌≡◌, ℕ, zero, suc, ◌+◌, ◌*◌, ◌<◌, ◌≤◌, ◌^◌, Bool, true, false, cond, List, [], ◌∷◌, ◌++◌, map, arith, refl, sym, subst, length, get_or}
-use Rattle.std.specs.Prelude.{ℤ, pos, negsuc, neg_ℤ, ◌+ℤ◌, ◌*ℤ◌, unsigned_abs, All}
+use Rattle.std.proofs.Common.{ℕ, zero, suc, Bool, true, false, cond, List, [], ◌∷◌, arith, get_or}
+use Rattle.std.specs.Prelude.{ℤ, pos, negsuc, neg_ℤ, ◌+ℤ◌, ◌*ℤ◌}
 use Rattle.std.specs.List.{AllByRecursion}
 use Rattle.std.proofs.lemmas.Int.{ints}
 use Rattle.std.proofs.lemmas.List.Elements.{All-from_recursion, recursion_from_All}
@@ -42,8 +42,8 @@ small_combined k p l q k_narrow l_narrow p_narrow q_narrow =
     All-from_recursion IsSmall (numbers_of (combined k p l q)) (
       small_sum k p.row.constant l q.row.constant k_narrow p_narrow.constant l_narrow q_narrow.constant,
       all_append IsSmall coefs multipliers
-      (small_sums k p.row.coefs l q.row.coefs k_narrow l_narrow (recursion_from_All IsNarrow p.row.coefs p_narrow.coefs) (recursion_from_All IsNarrow q.row.coefs q_narrow.coefs))
-      (small_sums k p.multipliers l q.multipliers k_narrow l_narrow (recursion_from_All IsNarrow p.multipliers p_narrow.multipliers) (recursion_from_All IsNarrow q.multipliers q_narrow.multipliers)),
+          (small_sums k p.row.coefs l q.row.coefs k_narrow l_narrow (recursion_from_All IsNarrow p.row.coefs p_narrow.coefs) (recursion_from_All IsNarrow q.row.coefs q_narrow.coefs))
+          (small_sums k p.multipliers l q.multipliers k_narrow l_narrow (recursion_from_All IsNarrow p.multipliers p_narrow.multipliers) (recursion_from_All IsNarrow q.multipliers q_narrow.multipliers)),
     )
 
 pub small_combination : (row : Combination) → IsNarrowCombination row → IsSmallCombination row
@@ -51,8 +51,8 @@ small_combination row narrow =
     All-from_recursion IsSmall (numbers_of row) (
       small_of_narrow row.row.constant narrow.constant,
       all_append IsSmall row.row.coefs row.multipliers
-      (all_weaker IsNarrow IsSmall small_of_narrow row.row.coefs (recursion_from_All IsNarrow row.row.coefs narrow.coefs))
-      (all_weaker IsNarrow IsSmall small_of_narrow row.multipliers (recursion_from_All IsNarrow row.multipliers narrow.multipliers)),
+          (all_weaker IsNarrow IsSmall small_of_narrow row.row.coefs (recursion_from_All IsNarrow row.row.coefs narrow.coefs))
+          (all_weaker IsNarrow IsSmall small_of_narrow row.multipliers (recursion_from_All IsNarrow row.multipliers narrow.multipliers)),
     )
 
 get_or_narrow : (xs : List ℤ) (j : ℕ) → AllByRecursion IsNarrow xs → IsNarrow (get_or xs j (pos 0))

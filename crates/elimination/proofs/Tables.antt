@@ -1,5 +1,5 @@
 -- The list of all multipliers, and the list of those that are kept.
-use Rattle.std.proofs.Common.{◌≡◌, ◌↔◌, ℕ, zero, suc, ◌+◌, ◌-◌, ◌<◌, ◌≤◌, Bool, true, false, cond, eqb, List, [], ◌∷◌, ◌++◌, map, arith, refl, sym, ◌∙◌, ap, subst, length, get_or, replicate}
+use Rattle.std.proofs.Common.{◌≡◌, ◌↔◌, ℕ, zero, suc, ◌+◌, ◌-◌, ◌<◌, ◌≤◌, Bool, true, false, cond, eqb, List, [], ◌∷◌, ◌++◌, map, arith, refl, sym, ◌∙◌, ap, subst, length, replicate}
 use Rattle.std.specs.Int.{int_div_euclid}
 use Rattle.std.specs.Prelude.{ℤ, pos, negsuc, ◌<ℤ◌, ◌+ℤ◌, ◌*ℤ◌, All}
 use Rattle.std.specs.List.{AllByRecursion}
@@ -71,7 +71,7 @@ module _ (P : ℤ → Type 0) where
       let bound = rising_bounds (suc entry.row) high entries rising.1 in (
         subst P (at_own low high entry entries rising) (rows entry.row rising.0 (omega arith)),
         entries_of_rows (suc entry.row) high entries rising.1
-        (λ row from below. subst P (at_later low high row entry entries (omega arith)) (rows row (omega (arith, rising.0)) below)),
+            (λ row from below. subst P (at_later low high row entry entries (omega arith)) (rows row (omega (arith, rising.0)) below)),
       )
 
   pub entries_have : (count : ℕ) (entries : List Multiplier) → IsRising 0 count entries → AllByRecursion P (table 0 count entries) → EntriesHave entries
@@ -121,7 +121,7 @@ module _ (divisor : ℤ) (positive : pos 0 <ℤ divisor) where
   at-quotients low high row (entry ∷ entries) rising =
       ap (λ t. cond (eqb entry.row row) (int_div_euclid entry.value divisor) (pos 0) +ℤ t) (at-quotients (suc entry.row) high row entries rising.1)
       ∙ quotient_case (eqb entry.row row) entry.value (at entries row)
-        (λ is. let same : entry.row ≡ row = grind (arith, nat_tests) in at_before row (suc entry.row) high entries rising.1 (omega arith))
+      (λ is. let same : entry.row ≡ row = grind (arith, nat_tests) in at_before row (suc entry.row) high entries rising.1 (omega arith))
 
   table_from : (count first : ℕ) (entries : List Multiplier) → ((row : ℕ) → at (quotients_of divisor entries) row ≡ int_div_euclid (at entries row) divisor)
       → table first count (quotients_of divisor entries) ≡ map (λ x. int_div_euclid x divisor) (table first count entries)
@@ -207,6 +207,6 @@ pub narrow_table : (count : ℕ) (entries : List Multiplier) (all : List ℤ) �
     → All (λ entry. IsNarrow entry.value) entries ↔ All IsNarrow all
 narrow_table count entries all rising is = (
   λ narrow. subst (All IsNarrow) is (All-from_recursion IsNarrow (table 0 count entries)
-    (table_has IsNarrow count entries (omega arith) rising (recursion_from_All (λ (entry : Multiplier). IsNarrow entry.value) entries narrow))),
+      (table_has IsNarrow count entries (omega arith) rising (recursion_from_All (λ (entry : Multiplier). IsNarrow entry.value) entries narrow))),
   λ narrow. narrow_entries count entries all rising is narrow,
 )

@@ -1,6 +1,6 @@
 -- The rows of a list are of one shape, and narrow.
-use Rattle.std.proofs.Common.{◌≡◌, ℕ, zero, suc, ◌+◌, ◌<◌, Bool, true, false, List, [], ◌∷◌, ◌++◌, map, max, arith, refl, sym, ◌∙◌, ap, subst, length, length-append, replicate, get_or, Result, Ok, Err}
-use Rattle.std.specs.Prelude.{ℤ, pos, neg_ℤ, ◌*ℤ◌, All}
+use Rattle.std.proofs.Common.{◌≡◌, ℕ, suc, ◌+◌, List, [], ◌∷◌, max, arith, sym, ◌∙◌, subst, length, length-append, replicate, Result, Ok, Err}
+use Rattle.std.specs.Prelude.{ℤ, pos, neg_ℤ, ◌*ℤ◌}
 use Rattle.std.specs.List.{AllByRecursion}
 use Rattle.std.proofs.lemmas.List.{length-replicate, length-map}
 use Rattle.std.proofs.lemmas.List.Elements.{All-from_recursion, recursion_from_All}
@@ -39,9 +39,9 @@ shape_steps : (n m j : ℕ) → Steps j (IsWorking n m) (HasShape n m)
 shape_steps n m j = record {
   flat = λ row zero working. working.shape;
   reduce = λ pivot row equality pivot_working working.
-    shape-combined n m (size (entry j pivot)) row (neg_ℤ (sign (entry j pivot) *ℤ entry j row)) pivot working.shape pivot_working.shape;
+      shape-combined n m (size (entry j pivot)) row (neg_ℤ (sign (entry j pivot) *ℤ entry j row)) pivot working.shape pivot_working.shape;
   pair = λ lower upper is_lower is_upper lower_working upper_working.
-    shape-combined n m (size (entry j upper)) lower (entry j lower) upper lower_working.shape upper_working.shape;
+      shape-combined n m (size (entry j upper)) lower (entry j lower) upper lower_working.shape upper_working.shape;
 }
 
 abbrev NothingOf : List ℤ → Type 0
@@ -70,7 +70,7 @@ uniform_next cap j old rows uniform e =
       columns = n;
       given = m;
       all = All-from_recursion (IsWorking n m) rows (next_list n m cap (projected j old) rows
-        (projected_has j (IsWorking n m) (HasShape n m) (shape_steps n m j) old (recursion_from_All (IsWorking n m) old uniform.all)) e);
+          (projected_has j (IsWorking n m) (HasShape n m) (shape_steps n m j) old (recursion_from_All (IsWorking n m) old uniform.all)) e);
     }
 
 initial_shape : (n before : ℕ) (rows : List Row) → AllByRecursion (λ row. length row.coefs ≡ n) rows
@@ -93,7 +93,7 @@ uniform_start cap given rows one_length e =
       columns = n;
       given = m;
       all = All-from_recursion (IsWorking n m) rows (next_list n m cap (initial 0 given) rows
-        (initial_shape n 0 given (recursion_from_All (λ (row : Row). length row.coefs ≡ n) given one_length)) e);
+          (initial_shape n 0 given (recursion_from_All (λ (row : Row). length row.coefs ≡ n) given one_length)) e);
     }
 
 pub working_two : (n m : ℕ) (first second : Combination) → IsWorking n m first → IsWorking n m second → AreWorking first second

@@ -1,5 +1,5 @@
 -- Multipliers that are kept as the list of those that are not 0, by rising number of their rows.
-use Rattle.std.specs.Prelude.{◌≡◌, ℕ, zero, suc, ◌<◌, ◌≤◌, ◌==◌, if◌then◌else◌, ℤ, pos, ◌+ℤ◌, List, [], ◌∷◌, map}
+use Rattle.std.specs.Prelude.{◌≡◌, ℕ, zero, suc, ◌≤◌, ◌==◌, if◌then◌else◌, ℤ, pos, ◌+ℤ◌, List, [], ◌∷◌, map}
 use Rattle.std.specs.Int.{int_div_euclid}
 use Rattle.elimination.specs.declared.multipliers.Multiplier.{Multiplier}
 

@@ -128,9 +128,7 @@ fn gcd_of_numbers(start: u128, numbers: &[i128]) -> u128
 fn are_narrow(numbers: &[i128]) -> bool
     ensures { IsTrue result ↔ All IsNarrow numbers.now }
 {
-    numbers
-        .iter()
-        .all(|number| number.unsigned_abs() < 1 << 56)
+    numbers.iter().all(|number| number.unsigned_abs() < 1 << 56)
 }
 
 fn quotients(alloc: Global, numbers: &[i128], divisor: &i128) -> Result<Vec<i128>, AllocError>

@@ -76,19 +76,51 @@ fn rows_are_decided(rt: HostRuntime) -> Result<(), Fail> {
     let rows: [(&[(&[i64], i64, bool)], u32, Want); 15] = [
         (&[], 4, Want::NotRefutable),
         // x - 1 >= 0 and -x >= 0
-        (&[(&[1], -1, false), (&[-1], 0, false)], 4, Want::Multipliers(&[1, 1])),
-        (&[(&[1], -1, false), (&[-1], 0, false)], 2, Want::Multipliers(&[1, 1])),
-        (&[(&[1], -1, false), (&[-1], 0, false)], 1, Want::Limit(Limit::ManyRows)),
+        (
+            &[(&[1], -1, false), (&[-1], 0, false)],
+            4,
+            Want::Multipliers(&[1, 1]),
+        ),
+        (
+            &[(&[1], -1, false), (&[-1], 0, false)],
+            2,
+            Want::Multipliers(&[1, 1]),
+        ),
+        (
+            &[(&[1], -1, false), (&[-1], 0, false)],
+            1,
+            Want::Limit(Limit::ManyRows),
+        ),
         // 2x - 1 >= 0 and 1 - 2x >= 0: no whole number, but 1/2
-        (&[(&[2], -1, false), (&[-2], 1, false)], 4, Want::NotRefutable),
-        (&[(&[2], -1, false), (&[-2], 1, false)], 1, Want::Limit(Limit::ManyRows)),
+        (
+            &[(&[2], -1, false), (&[-2], 1, false)],
+            4,
+            Want::NotRefutable,
+        ),
+        (
+            &[(&[2], -1, false), (&[-2], 1, false)],
+            1,
+            Want::Limit(Limit::ManyRows),
+        ),
         // 2x - 1 >= 0 and -2x >= 0: twice their sum is -2, which is divided by 2
-        (&[(&[2], -1, false), (&[-2], 0, false)], 4, Want::Multipliers(&[1, 1])),
+        (
+            &[(&[2], -1, false), (&[-2], 0, false)],
+            4,
+            Want::Multipliers(&[1, 1]),
+        ),
         // 2 - x = 0 and 1 - x >= 0: the second less the first
-        (&[(&[-1], 2, true), (&[-1], 1, false)], 4, Want::Multipliers(&[-1, 1])),
+        (
+            &[(&[-1], 2, true), (&[-1], 1, false)],
+            4,
+            Want::Multipliers(&[-1, 1]),
+        ),
         // x = y, y >= 3 and x <= 2
         (
-            &[(&[1, -1], 0, true), (&[0, 1], -3, false), (&[-1, 0], 2, false)],
+            &[
+                (&[1, -1], 0, true),
+                (&[0, 1], -3, false),
+                (&[-1, 0], 2, false),
+            ],
             4,
             Want::Multipliers(&[1, 1, 1]),
         ),
@@ -113,15 +145,26 @@ fn rows_are_decided(rt: HostRuntime) -> Result<(), Fail> {
             Want::Multipliers(&[0, 1, 1]),
         ),
         // (2^56 - 1) x >= 1 and x <= 0
-        (&[(&[MOST], -1, false), (&[-1], 0, false)], 4, Want::Multipliers(&[1, MOST as i128])),
+        (
+            &[(&[MOST], -1, false), (&[-1], 0, false)],
+            4,
+            Want::Multipliers(&[1, MOST as i128]),
+        ),
         // the sum of (2^56 - 1) x + y >= 0 and y <= (2^56 - 2) x has products past 2^56
-        (&[(&[MOST, 1], 0, false), (&[1 - MOST, -1], 5, false)], 4, Want::Limit(Limit::WideRow)),
+        (
+            &[(&[MOST, 1], 0, false), (&[1 - MOST, -1], 5, false)],
+            4,
+            Want::Limit(Limit::WideRow),
+        ),
     ];
     for (given, cap, want) in rows {
         let made = rows_of(alloc, given)?;
         assert!(rt; have_one_length(made.as_slice()) && are_narrow_rows(made.as_slice()));
         let got = decide(alloc, made.as_slice(), cap);
-        assert!(rt; is_wanted(&got, &want), "{made:?} with a cap of {cap}: {got:?}");
+        assert!(rt;
+            is_wanted(&got, &want),
+            "{made:?} with a cap of {cap}: {got:?}"
+        );
     }
     Ok(())
 }

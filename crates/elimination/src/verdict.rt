@@ -44,12 +44,7 @@ fn join_given(
 }
 
 /// The given rows join a list, in order.
-fn start(
-    alloc: Global,
-    cap: u32,
-    given: &[Row],
-    rows: &mut Items<Combination>,
-) -> Result<(), Stop>
+fn start(alloc: Global, cap: u32, given: &[Row], rows: &mut Items<Combination>) -> Result<(), Stop>
     requires many { length given.now ≤ 4096 }
     requires narrow { All IsNarrowRow given.now }
     ensures { IsOutcome (joined_each cap (Ok rows.old) (initial 0 given.now)) result rows.new }

@@ -1,9 +1,8 @@
-use Rattle.std.proofs.Common.{◌≡◌, ◌∙◌, sym, ap, subst, map, List, ◌++◌, Ok, Result}
-use Rattle.std.proofs.lemmas.List.{map-append}
+use Rattle.std.proofs.Common.{sym, subst, List, ◌++◌, Ok, Result}
 use Rattle.std.proofs.lemmas.Result.{err_from_is_err_and}
 use Rattle.elimination.specs.declared.answer.Stop.{Stop}
 use Rattle.elimination.specs.Combination.{Combination}
-use Rattle.elimination.specs.Column.{reduced, without, pairs, lower_bounds, upper_bounds}
+use Rattle.elimination.specs.Column.{without, pairs, lower_bounds, upper_bounds}
 use Rattle.elimination.specs.Joining.{joined_each}
 use Rattle.elimination.specs.Outcome.{IsOutcome}
 use Rattle.elimination.proofs.Stepping.{joined_append, stops}

@@ -1,8 +1,8 @@
-use Rattle.std.proofs.Common.{◌≡◌, ◌+◌, ◌∙◌, sym, ap, subst, map, List, ◌++◌, take, drop, Ok, Result}
+use Rattle.std.proofs.Common.{◌+◌, ◌∙◌, sym, ap, subst, map, List, ◌++◌, take, Ok, Result}
 use Rattle.std.proofs.lemmas.List.{take_rest}
 use Rattle.elimination.specs.declared.answer.Stop.{Stop}
 use Rattle.elimination.specs.Combination.{Combination}
-use Rattle.elimination.specs.Column.{reduced, projected}
+use Rattle.elimination.specs.Column.{reduced}
 use Rattle.elimination.specs.Joining.{joined_each}
 use Rattle.elimination.specs.Outcome.{IsOutcome}
 use Rattle.elimination.proofs.Picking.{projected_pairs, projected_reduced}
@@ -16,7 +16,7 @@ returns-in-Some c =
     let raws = projected_reduced c.args.j old pivot c.pivot_place.result at c.pivot_place.ensures c.in-Some.is c.index-old-at.is in
     let behind = sym (take_rest old (at + 1)) in
     let wanted = ap (λ (rs : List Combination). joined_each c.args.cap (Ok c.args.rows.now) rs)
-        (raws ∙ ap (λ (rs : List Combination). map (reduced c.args.j pivot) (take at old ++ rs)) behind) in
+    (raws ∙ ap (λ (rs : List Combination). map (reduced c.args.j pivot) (take at old ++ rs)) behind) in
     subst (λ (w : Result (List Combination) Stop). IsOutcome w c.by_pivot.result c.by_pivot.new.rows) (sym wanted) c.by_pivot.ensures
 
 pub returns-in-None : goal.returns-in-None

@@ -1,7 +1,7 @@
-use Rattle.std.proofs.Common.{◌≡◌, ◌+◌, ◌<◌, ◌∙◌, sym, ap, subst, map, List, true, false, drop, All, length, Ok, Err, Result}
+use Rattle.std.proofs.Common.{◌≡◌, ◌+◌, ◌∙◌, sym, ap, subst, map, List, drop, All, Ok, Result}
 use Rattle.std.proofs.lemmas.Result.{err_from_is_err_and}
 use Rattle.elimination.specs.declared.answer.Stop.{Stop}
-use Rattle.elimination.specs.Combination.{Combination, entry, is_positive}
+use Rattle.elimination.specs.Combination.{Combination, is_positive}
 use Rattle.elimination.specs.Column.{paired, pairs, lower_bounds, upper_bounds}
 use Rattle.elimination.specs.Joining.{joined_each}
 use Rattle.elimination.specs.Working.{AreWorking}
@@ -43,11 +43,11 @@ loop-lower-preserved c =
     let later : List Combination = pairs j (lower_bounds j (drop (i + 1) old)) uppers in
     let tested = ap is_positive (sym c.entry.ensures) ∙ sym c.is_positive.ensures in
     elim c.if-is_positive.branch [
-      then-is_positive+in_ok-join_pairs_of w ↦
-        subst (λ (rs : List Combination). joined_each cap (Ok rs) later ≡ target) (sym w.rows-is)
-        (goes_on cap (joined_each cap (Ok rows) (map (paired j lower) uppers)) target w.join_pairs_of.new.rows later
-        (lower_joins cap j i old uppers lower rows target c.loop-lower-test.true c.lower-item.is (tested ∙ w.if-is_positive.true) c.loop-lower.invariant) w.in_ok-join_pairs_of.ensures)
+      | then-is_positive+in_ok-join_pairs_of w ↦
+          subst (λ (rs : List Combination). joined_each cap (Ok rs) later ≡ target) (sym w.rows-is)
+          (goes_on cap (joined_each cap (Ok rows) (map (paired j lower) uppers)) target w.join_pairs_of.new.rows later
+          (lower_joins cap j i old uppers lower rows target c.loop-lower-test.true c.lower-item.is (tested ∙ w.if-is_positive.true) c.loop-lower.invariant) w.in_ok-join_pairs_of.ensures)
       | else-is_positive w ↦
-        subst (λ (rs : List Combination). joined_each cap (Ok rs) later ≡ target) (sym w.rows-is)
-        (other_joins cap j i old uppers lower rows target c.loop-lower-test.true c.lower-item.is (tested ∙ w.if-is_positive.false) c.loop-lower.invariant)
+          subst (λ (rs : List Combination). joined_each cap (Ok rs) later ≡ target) (sym w.rows-is)
+          (other_joins cap j i old uppers lower rows target c.loop-lower-test.true c.lower-item.is (tested ∙ w.if-is_positive.false) c.loop-lower.invariant)
     ]

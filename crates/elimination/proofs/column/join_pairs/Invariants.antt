@@ -1,4 +1,4 @@
-use Rattle.std.proofs.Common.{◌≡◌, map, drop, Ok}
+use Rattle.std.proofs.Common.{◌≡◌, drop, Ok}
 use Rattle.elimination.specs.Column.{pairs, lower_bounds, upper_bounds}
 use Rattle.elimination.specs.Joining.{joined_each}
 use Rattle.elimination.proofs.column.join_pairs.Given as goal

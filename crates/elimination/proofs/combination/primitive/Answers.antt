@@ -1,4 +1,4 @@
-use Rattle.std.proofs.Common.{◌≡◌, ◌≤◌, rules}
+use Rattle.std.proofs.Common.{◌≤◌, rules}
 use Rattle.elimination.proofs.Gcds.{primitive_of_one, divisor_below}
 use Rattle.elimination.proofs.combination.primitive.Goals as goal
 

@@ -1,4 +1,4 @@
-use Rattle.std.proofs.Common.{◌≡◌, rules, sym, subst, ap, ◌∙◌}
+use Rattle.std.proofs.Common.{◌≡◌, rules, sym, subst}
 use Rattle.std.specs.Prelude.{unsigned_abs}
 use Rattle.lin_terms.specs.Divisor.{gcd}
 use Rattle.elimination.proofs.Gcds.{gcd_one}

@@ -1,4 +1,4 @@
-use Rattle.std.proofs.Common.{◌≡◌, ◌∙◌, sym, ap, subst, not, List, Bool, true, false, Result, rules}
+use Rattle.std.proofs.Common.{◌≡◌, ◌∙◌, sym, ap, subst, not, List, true, false, Result}
 use Rattle.elimination.specs.declared.answer.Stop.{Stop}
 use Rattle.elimination.specs.Combination.{Combination}
 use Rattle.elimination.specs.Joining.{numbers_of, is_wide, has_no_variable}

@@ -1,5 +1,5 @@
-use Rattle.std.proofs.Common.{◌≡◌, ◌∙◌, sym, ap, List, true, false, ◌∷◌, [], ◌++◌, get_or}
-use Rattle.std.specs.Prelude.{position, int_lt}
+use Rattle.std.proofs.Common.{◌∙◌, sym, ap, List, true, false, get_or}
+use Rattle.std.specs.Prelude.{position}
 use Rattle.elimination.specs.Combination.{Combination}
 use Rattle.elimination.specs.Joining.{is_parallel}
 use Rattle.elimination.proofs.Places.{placed_last, placed_instead}

@@ -1,4 +1,4 @@
-use Rattle.std.proofs.Common.{◌≡◌, ◌++◌, ◌-◌, ◌≤◌, All}
+use Rattle.std.proofs.Common.{◌≡◌, ◌++◌, ◌-◌}
 use Rattle.lin_terms.specs.Vectors.{scaled}
 use Rattle.elimination.specs.Sparse.{table, IsRising}
 use Rattle.elimination.proofs.Merging.{AreNarrowEntries}

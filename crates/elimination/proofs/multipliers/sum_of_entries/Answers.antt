@@ -1,4 +1,4 @@
-use Rattle.std.proofs.Common.{rules, ◌≡◌, ◌≢◌, ◌⊎◌, inl, inr, ℕ, [], ◌∷◌, List, ap, sym, ◌∙◌, subst, length, FitsSigned}
+use Rattle.std.proofs.Common.{rules, ◌≡◌, ◌≢◌, ◌⊎◌, inl, inr, ℕ, [], List, sym, subst, length, FitsSigned}
 use Rattle.std.specs.Prelude.{ℤ, ◌+ℤ◌, ◌*ℤ◌}
 use Rattle.std.specs.Int.{w128}
 use Rattle.std.proofs.lemmas.Int.{to_z-of_z}
@@ -37,7 +37,7 @@ loop-ps_left-preserved c =
     let step = merging_step k l count n target made after ps qs value c.loop-ps_left.invariant.merging row some c.front_sum-value.ensures added in
     record {
       merging = subst (IsMerging k l count target after c.behind_row-ps_left.result.now) (sym c.behind_row-qs_left.ensures)
-        (subst (λ rest. IsMerging k l count target after rest (behind_row n qs)) (sym c.behind_row-ps_left.ensures) step);
+          (subst (λ rest. IsMerging k l count target after rest (behind_row n qs)) (sym c.behind_row-ps_left.ensures) step);
       ps_narrow = subst AreNarrowEntries (sym c.behind_row-ps_left.ensures) (narrow_behind n ps c.loop-ps_left.invariant.ps_narrow);
       qs_narrow = subst AreNarrowEntries (sym c.behind_row-qs_left.ensures) (narrow_behind n qs c.loop-ps_left.invariant.qs_narrow);
     }

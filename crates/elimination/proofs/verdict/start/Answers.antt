@@ -1,4 +1,4 @@
-use Rattle.std.proofs.Common.{◌≡◌, ◌+◌, ◌-◌, ◌∙◌, sym, ap, subst, List, drop, length, Ok, Result}
+use Rattle.std.proofs.Common.{◌+◌, ◌-◌, List, drop, length, Ok, Result}
 use Rattle.std.proofs.lemmas.Result.{err_from_is_err_and}
 use Rattle.lin_terms.specs.declared.row.Row.{Row}
 use Rattle.elimination.specs.declared.answer.Stop.{Stop}

@@ -1,4 +1,4 @@
-use Rattle.std.proofs.Common.{◌≡◌, ◌↔◌, ◌∷◌, [], List, sym, subst, All}
+use Rattle.std.proofs.Common.{◌↔◌, List, sym, subst, All}
 use Rattle.lin_terms.specs.Row.{IsNarrow}
 use Rattle.elimination.specs.declared.multipliers.Multiplier.{Multiplier}
 use Rattle.elimination.proofs.Tables.{narrow_table}

@@ -1,4 +1,4 @@
-use Rattle.std.proofs.Common.{◌≡◌, ◌∙◌, sym, subst, ap, map, List}
+use Rattle.std.proofs.Common.{◌∙◌, sym, subst, ap, map, List}
 use Rattle.std.specs.Prelude.{ℤ}
 use Rattle.std.specs.Int.{int_div_euclid}
 use Rattle.elimination.specs.declared.multipliers.Multiplier.{Multiplier}

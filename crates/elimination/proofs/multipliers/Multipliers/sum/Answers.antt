@@ -1,9 +1,8 @@
-use Rattle.std.proofs.Common.{◌≡◌, ◌∷◌, [], List, ℕ, sym, subst, ◌∙◌, ap, All}
+use Rattle.std.proofs.Common.{List, sym, subst, ◌∙◌, ap}
 use Rattle.std.specs.Prelude.{ℤ}
-use Rattle.lin_terms.specs.Row.{IsNarrow}
 use Rattle.lin_terms.specs.Vectors.{plus, scaled}
 use Rattle.elimination.specs.declared.multipliers.Multiplier.{Multiplier}
-use Rattle.elimination.specs.Sparse.{at, table, IsRising}
+use Rattle.elimination.specs.Sparse.{table, IsRising}
 use Rattle.elimination.proofs.Merging.{AreNarrowEntries}
 use Rattle.elimination.proofs.Tables.{table-sum, narrow_entries, same_count}
 use Rattle.elimination.proofs.multipliers.Multipliers.sum.Goals as goal

@@ -1,4 +1,4 @@
-use Rattle.std.proofs.Common.{◌≡◌, ◌+◌, ◌-◌, ◌∷◌, ◌++◌, [], List, ℕ, suc, pos, arith, sym, ◌∙◌, ap}
+use Rattle.std.proofs.Common.{◌≡◌, ◌+◌, ◌-◌, ◌∷◌, ◌++◌, [], List, suc, pos, arith, ◌∙◌, ap}
 use Rattle.elimination.specs.declared.multipliers.Multiplier.{Multiplier}
 use Rattle.elimination.specs.Sparse.{table}
 use Rattle.elimination.proofs.Tables.{table-unit}
