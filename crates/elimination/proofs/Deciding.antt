@@ -20,7 +20,7 @@ use Rattle.elimination.specs.Laws.{HasPoint}
 use Rattle.elimination.proofs.Lists.{all_weaker}
 use Rattle.elimination.proofs.Points.{MeetsEach, entry-combined, sign-mul, zero_is, size_of_negative}
 use Rattle.elimination.proofs.Primitive.{entry-primitive}
-use Rattle.elimination.proofs.Joining.{HasWidePoint, columns_back, eliminate_err, list_of_back}
+use Rattle.elimination.proofs.PointsOfLists.{HasWidePoint, columns_back, eliminate_err, list_of_back}
 use Rattle.elimination.proofs.Keeping.{Holding, Joins, list_of_holds, Steps, projected_has}
 
 -- ---- columns that are gone, where those before j are eliminated of n
@@ -79,7 +79,7 @@ NothingOf multipliers = Unit {0}
 
 gone_joins : (n j : ℕ) (row : Combination) → HasGone n j row → Joins (IsLeft n j) NothingOf (primitive row)
 gone_joins n j row has_gone = record {
-  kept = λ variable. ((λ i gone. entry-primitive i row (has_gone i gone)), variable);
+  kept = λ narrow variable. ((λ i gone. entry-primitive i row (has_gone i gone)), variable);
   failed = λ narrow no_variable fails. tt;
 }
 

@@ -48,7 +48,7 @@ module _ (P : Combination → Type 0) (R : List ℤ → Type 0) where
 
   -- what a row that joins owes: kept it has P, and where it does not hold its multipliers have R
   pub record Joins (row : Combination) : Type 0 where
-    pub kept : has_no_variable row.row.coefs ≡ false → P row
+    pub kept : is_wide (numbers_of row) ≡ false → has_no_variable row.row.coefs ≡ false → P row
     pub failed : is_wide (numbers_of row) ≡ false → has_no_variable row.row.coefs ≡ true → allows row.row.equality row.row.constant ≡ false
         → R (turned row.row.constant row.multipliers)
 
@@ -67,7 +67,7 @@ module _ (P : Combination → Type 0) (R : List ℤ → Type 0) where
   kept_holds true cap rows row narrow is all joins =
       judged_holds (allows row.row.equality row.row.constant) rows row narrow is refl all joins
   kept_holds false cap rows row narrow is all joins =
-      counted_holds (nat_le (length (added rows row)) cap) (added rows row) (all_added row.row.equality rows row all (joins.kept is))
+      counted_holds (nat_le (length (added rows row)) cap) (added rows row) (all_added row.row.equality rows row all (joins.kept narrow is))
 
   admitted_holds : (test : Bool) (cap : ℕ) (rows : List Combination) (row : Combination) → is_wide (numbers_of row) ≡ test → AllByRecursion P rows → Joins row
       → Holding (cond test (Err (AtLimit WideRow)) (cond (has_no_variable row.row.coefs) (judged rows row) (counted cap (added rows row))))

@@ -2,12 +2,21 @@ pub mod Lists
 pub mod Points
 pub mod Best
 pub mod Pivots
-pub mod Column
+pub mod CarriedBack
 pub mod Primitive
-pub mod Joining
+pub mod PointsOfLists
 pub mod Keeping
 pub mod Deciding
 pub mod Making
 pub mod Narrowness
 pub mod Answering
 mod Samples
+pub mod Merging
+pub mod Tables
+pub mod Gcds
+pub mod Places
+pub mod Sizes
+pub mod Stepping
+pub mod Uniform
+pub mod Picking
+pub mod Ending

@@ -19,7 +19,7 @@ use Rattle.elimination.specs.Joining.{divided, primitive, has_no_variable, allow
 use Rattle.elimination.specs.Eliminated.{initial, eliminate}
 use Rattle.elimination.proofs.Points.{entry-combined, zero_is}
 use Rattle.elimination.proofs.Primitive.{IsDivisor, divisor_of, get_or-quotients, get_or_divides}
-use Rattle.elimination.proofs.Joining.{and_true}
+use Rattle.elimination.proofs.PointsOfLists.{and_true}
 use Rattle.elimination.proofs.Keeping.{Holding, Joins, Steps, new_list_holds, eliminate_holds}
 
 -- ---- what it means that multipliers make a row
@@ -221,7 +221,7 @@ made_joins given row made =
     let all = made_primitive given row made in
     let joins : Combination = primitive row in
     record {
-      kept = λ variable. all;
+      kept = λ narrow variable. all;
       failed = λ narrow no_variable fails.
           contradicted given joins.multipliers (λ j. all.columns j ∙ entry_none joins.row.coefs j no_variable) joins.row.equality joins.row.constant all.signs all.constant fails;
     }

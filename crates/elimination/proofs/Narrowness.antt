@@ -19,7 +19,7 @@ or_false false b e = (refl, e)
 not_wide : (n : ℕ) → nat_le (2 ^ 56) n ≡ false → n < 2 ^ 56
 not_wide n e = grind (arith, nat_tests)
 
-narrow_numbers : (numbers : List ℤ) → is_wide numbers ≡ false → AllByRecursion IsNarrow numbers
+pub narrow_numbers : (numbers : List ℤ) → is_wide numbers ≡ false → AllByRecursion IsNarrow numbers
 narrow_numbers [] e = tt
 narrow_numbers (x ∷ numbers) e =
     let both = or_false (nat_le (2 ^ 56) (unsigned_abs x)) (is_wide numbers) e in
@@ -48,7 +48,7 @@ narrow_joins : (row : Combination) → Anything row → Joins Anything AreNarrow
 narrow_joins row anything =
     let joins : Combination = primitive row in
     record {
-      kept = λ variable. tt;
+      kept = λ narrow variable. tt;
       failed = λ narrow no_variable fails.
           narrow_turned (is_positive joins.row.constant) joins.multipliers (all_back IsNarrow joins.row.coefs joins.multipliers (narrow_numbers (numbers_of joins) narrow).1);
     }

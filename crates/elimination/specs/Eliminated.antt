@@ -12,12 +12,14 @@ use Rattle.elimination.specs.Combination.{Combination}
 use Rattle.elimination.specs.Column.{projected}
 use Rattle.elimination.specs.Joining.{list_of}
 
--- each given row once: its own multiplier is 1, those of the `before` rows before it and of the rows behind it are 0
+-- a given row: its own multiplier is 1, those of the rows before it and of the rows behind it are 0
+abbrev pub given_row : ℕ → ℕ → Row → Combination
+given_row before behind row = record { row = row; multipliers = replicate before (pos 0) ++ pos 1 ∷ replicate behind (pos 0) }
+
+-- each given row once, where `before` rows stand before these
 abbrev pub initial : ℕ → List Row → List Combination
 initial before [] = []
-initial before (row ∷ rows) =
-    record { row = row; multipliers = replicate before (pos 0) ++ pos 1 ∷ replicate (length rows) (pos 0) }
-    ∷ initial (suc before) rows
+initial before (row ∷ rows) = given_row before (length rows) row ∷ initial (suc before) rows
 
 -- the rows that are left where `left` columns are eliminated, from column j on
 abbrev pub eliminate : ℕ → ℕ → ℕ → Result (List Combination) Stop → Result (List Combination) Stop

@@ -3,3 +3,6 @@ pub mod Column
 pub mod Joining
 pub mod Eliminated
 pub mod Laws
+pub mod Sparse
+pub mod Working
+pub mod Outcome

@@ -1,6 +1,9 @@
 //! What comes of an elimination.
+ghost use Rattle.std.specs.Prelude.{◌≡◌};
+ghost use Rattle.elimination.specs.declared.answer.Limit.TheVariants.{Memory};
 
 use sqlite_items::Items;
+use std::alloc::AllocError;
 
 /// Whether rows are refutable.
 #[derive(Debug, Drop)]
@@ -29,4 +32,14 @@ pub enum Stop {
     Contradiction(Items<i128>),
     /// A limit was met.
     AtLimit(Limit),
+}
+
+impl From<AllocError> for Stop {
+    ghost use Rattle.elimination.specs.declared.answer.Stop.TheVariants.{AtLimit};
+
+    ghost from_gives = { λ _ stop. stop ≡ AtLimit Memory };
+
+    fn from(_: AllocError) -> Stop {
+        Stop::AtLimit(Limit::Memory)
+    }
 }

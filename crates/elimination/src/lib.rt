@@ -4,11 +4,21 @@
 //! (Fourier 1826, Motzkin 1936): by an equality that has it, or else by adding each lower bound of its variable to each
 //! upper bound. A row and the multipliers that make it of the given rows are one value. So a row that cannot hold comes
 //! with the multipliers that refute the given rows, and where no such row comes up the given rows have a point.
-//! `specs/Eliminated.antt` is the whole method, and `specs/Laws.antt` says why its answers may be believed.
+//! `specs/Eliminated.antt` is the whole method, and `decide` answers exactly as it says. `specs/Laws.antt` says why the
+//! answers may be believed. Of the multipliers of a row only those that are not 0 are kept, since these are few.
 #![tactic(auto)]
 
 mod answer;
+mod column;
+mod combination;
+mod divisor;
+mod joining;
 mod laws;
+mod multipliers;
+#[cfg(test)]
+mod tests;
+mod verdict;
 
 pub use answer::{Answer, Limit};
 pub use laws::{law_of_limits, law_of_points, law_of_refutability, law_of_refutations};
+pub use verdict::decide;

@@ -21,7 +21,7 @@ use Rattle.elimination.specs.Eliminated.{eliminate}
 use Rattle.elimination.proofs.Lists.{all_front, all_back}
 use Rattle.elimination.proofs.Points.{MeetsEach, zero_is}
 use Rattle.elimination.proofs.Primitive.{primitive_back}
-use Rattle.elimination.proofs.Column.{carried_back}
+use Rattle.elimination.proofs.CarriedBack.{carried_back}
 
 pub ok_same : (xs ys : List Combination) → ◌≡◌ {A = Result (List Combination) Stop} (Ok xs) (Ok ys) → xs ≡ ys
 ok_same xs ys e = cc

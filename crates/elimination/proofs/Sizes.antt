@@ -1,0 +1,82 @@
+-- How great the numbers of sums are.
+use Rattle.std.proofs.Common.{ℕ, zero, suc, Bool, true, false, cond, List, [], ◌∷◌, arith, get_or}
+use Rattle.std.specs.Prelude.{ℤ, pos, negsuc, neg_ℤ, ◌+ℤ◌, ◌*ℤ◌}
+use Rattle.std.specs.List.{AllByRecursion}
+use Rattle.std.proofs.lemmas.Int.{ints}
+use Rattle.std.proofs.lemmas.List.Elements.{All-from_recursion, recursion_from_All}
+use Rattle.lin_terms.specs.Row.{IsNarrow}
+use Rattle.lin_terms.specs.Vectors.{plus, scaled}
+use Rattle.farkas_check.proofs.Wide.{unsigned_abs-product, unsigned_abs-sum}
+use Rattle.elimination.specs.Combination.{Combination, entry, is_zero, sign, size, combined}
+use Rattle.elimination.specs.Column.{reduced, paired}
+use Rattle.elimination.specs.Joining.{numbers_of}
+use Rattle.elimination.specs.Working.{IsSmall, IsSmallCombination, IsNarrowCombination, AreWorking}
+use Rattle.elimination.proofs.Lists.{all_append, all_weaker}
+
+small_of_narrow : (x : ℤ) → IsNarrow x → IsSmall x
+small_of_narrow x narrow = omega arith
+
+small_product : (k x : ℤ) → IsNarrow k → IsNarrow x → IsSmall (k *ℤ x)
+small_product k x k_narrow x_narrow = omega (arith, unsigned_abs-product k x k_narrow x_narrow)
+
+small_sum : (k x l y : ℤ) → IsNarrow k → IsNarrow x → IsNarrow l → IsNarrow y → IsSmall ((k *ℤ x) +ℤ (l *ℤ y))
+small_sum k x l y k_narrow x_narrow l_narrow y_narrow =
+    omega (arith, unsigned_abs-sum (k *ℤ x) (l *ℤ y), unsigned_abs-product k x k_narrow x_narrow, unsigned_abs-product l y l_narrow y_narrow)
+
+small_scaled : (k : ℤ) (xs : List ℤ) → IsNarrow k → AllByRecursion IsNarrow xs → AllByRecursion IsSmall (scaled k xs)
+small_scaled k [] k_narrow narrow = tt
+small_scaled k (x ∷ xs) k_narrow narrow = (small_product k x k_narrow narrow.0, small_scaled k xs k_narrow narrow.1)
+
+small_sums : (k : ℤ) (xs : List ℤ) (l : ℤ) (ys : List ℤ) → IsNarrow k → IsNarrow l → AllByRecursion IsNarrow xs → AllByRecursion IsNarrow ys
+    → AllByRecursion IsSmall (plus (scaled k xs) (scaled l ys))
+small_sums k [] l ys k_narrow l_narrow xs_narrow ys_narrow = small_scaled l ys l_narrow ys_narrow
+small_sums k (x ∷ xs) l [] k_narrow l_narrow xs_narrow ys_narrow = small_scaled k (x ∷ xs) k_narrow xs_narrow
+small_sums k (x ∷ xs) l (y ∷ ys) k_narrow l_narrow xs_narrow ys_narrow =
+    (small_sum k x l y k_narrow xs_narrow.0 l_narrow ys_narrow.0, small_sums k xs l ys k_narrow l_narrow xs_narrow.1 ys_narrow.1)
+
+pub small_combined : (k : ℤ) (p : Combination) (l : ℤ) (q : Combination) → IsNarrow k → IsNarrow l → IsNarrowCombination p → IsNarrowCombination q
+    → IsSmallCombination (combined k p l q)
+small_combined k p l q k_narrow l_narrow p_narrow q_narrow =
+    let coefs : List ℤ = plus (scaled k p.row.coefs) (scaled l q.row.coefs) in
+    let multipliers : List ℤ = plus (scaled k p.multipliers) (scaled l q.multipliers) in
+    All-from_recursion IsSmall (numbers_of (combined k p l q)) (
+      small_sum k p.row.constant l q.row.constant k_narrow p_narrow.constant l_narrow q_narrow.constant,
+      all_append IsSmall coefs multipliers
+          (small_sums k p.row.coefs l q.row.coefs k_narrow l_narrow (recursion_from_All IsNarrow p.row.coefs p_narrow.coefs) (recursion_from_All IsNarrow q.row.coefs q_narrow.coefs))
+          (small_sums k p.multipliers l q.multipliers k_narrow l_narrow (recursion_from_All IsNarrow p.multipliers p_narrow.multipliers) (recursion_from_All IsNarrow q.multipliers q_narrow.multipliers)),
+    )
+
+pub small_combination : (row : Combination) → IsNarrowCombination row → IsSmallCombination row
+small_combination row narrow =
+    All-from_recursion IsSmall (numbers_of row) (
+      small_of_narrow row.row.constant narrow.constant,
+      all_append IsSmall row.row.coefs row.multipliers
+          (all_weaker IsNarrow IsSmall small_of_narrow row.row.coefs (recursion_from_All IsNarrow row.row.coefs narrow.coefs))
+          (all_weaker IsNarrow IsSmall small_of_narrow row.multipliers (recursion_from_All IsNarrow row.multipliers narrow.multipliers)),
+    )
+
+get_or_narrow : (xs : List ℤ) (j : ℕ) → AllByRecursion IsNarrow xs → IsNarrow (get_or xs j (pos 0))
+get_or_narrow [] j narrow = omega arith
+get_or_narrow (x ∷ xs) zero narrow = narrow.0
+get_or_narrow (x ∷ xs) (suc j) narrow = get_or_narrow xs j narrow.1
+
+entry_narrow : (j : ℕ) (row : Combination) → IsNarrowCombination row → IsNarrow (entry j row)
+entry_narrow j row narrow = get_or_narrow row.row.coefs j (recursion_from_All IsNarrow row.row.coefs narrow.coefs)
+
+signed_narrow : (a b : ℤ) → IsNarrow b → IsNarrow (neg_ℤ (sign a *ℤ b))
+signed_narrow (pos zero) b narrow = omega (arith, ints)
+signed_narrow (pos (suc n)) b narrow = omega (arith, ints)
+signed_narrow (negsuc n) b narrow = omega (arith, ints)
+
+pub small_paired : (j : ℕ) (lower upper : Combination) → AreWorking lower upper → IsSmallCombination (paired j lower upper)
+small_paired j lower upper working =
+    small_combined (size (entry j upper)) lower (entry j lower) upper (entry_narrow j upper working.second_narrow) (entry_narrow j lower working.first_narrow) working.first_narrow working.second_narrow
+
+pub small_reduced : (j : ℕ) (pivot row : Combination) → AreWorking pivot row → IsSmallCombination (reduced j pivot row)
+small_reduced j pivot row working = by_test (is_zero (entry j row))
+  where
+    by_test : (test : Bool) → IsSmallCombination (cond test row (combined (size (entry j pivot)) row (neg_ℤ (sign (entry j pivot) *ℤ entry j row)) pivot))
+    by_test true = small_combination row working.second_narrow
+    by_test false =
+        small_combined (size (entry j pivot)) row (neg_ℤ (sign (entry j pivot) *ℤ entry j row)) pivot (entry_narrow j pivot working.first_narrow)
+        (signed_narrow (entry j pivot) (entry j row) (entry_narrow j row working.second_narrow)) working.second_narrow working.first_narrow
