@@ -26,6 +26,9 @@ fn shown(alloc: Global, trace: &Trace) -> Result<String, AllocError> {
 
 /// What comes of at most 2,000 steps of the text's function.
 fn ran(alloc: Global, text: &str, inputs: &[i128]) -> Result<String, Fail> {
+    if text.len() > 65536 {
+        return Err("a long text".into());
+    }
     let Ok(func) = read_function(alloc, text.as_bytes()) else {
         return Err("not read".into());
     };
