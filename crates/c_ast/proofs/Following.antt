@@ -6,6 +6,7 @@ use Rattle.c_ast.specs.declared.place.Place.{Place}
 use Rattle.c_ast.specs.declared.place.Place.TheVariants as place
 use Rattle.c_ast.specs.Tree.{Statements, Nil, Set, If, Loop, Break, Continue, Return, Mark, Block, Program}
 use Rattle.c_ast.specs.Step.{Scope, LoopParts, Run, Test, Cond, Tail, Work, scope_of, first_variables, spread}
+use Rattle.c_ast.specs.Returns.{always}
 use Rattle.c_ast.specs.Segment.{StandsIn, Follows, at_mark, at_exit, met_within}
 use Rattle.c_ast.specs.Formed.{is_mark, one_if, marks, IsProgram}
 use Rattle.c_ast.specs.Laws.{WorkIsDetermined, NextPlaceIsDetermined}
@@ -142,5 +143,5 @@ pub next_place_once : NextPlaceIsDetermined
 next_place_once f is l e a b c d one other =
     let work = work_once f is l one.work other.work one.from other.from in
     let met = subst (λ (z : Work). met_within one.steps z (spread (scope_of z) f.vars e) ≡ Some (a, c)) work one.met in
-    let same : ◌≡◌ {A = Place × List ℤ} (a, c) (b, d) = (seen_agree (Place × List ℤ) at_mark at_exit at_mark-agrees one.steps other.steps 0 other.work (spread (scope_of other.work) f.vars e)).by (a, c) (b, d) met other.met in
+    let same : ◌≡◌ {A = Place × List ℤ} (a, c) (b, d) = (seen_agree (Place × List ℤ) always None at_mark at_exit at_mark-agrees one.steps other.steps 0 other.work (spread (scope_of other.work) f.vars e)).by (a, c) (b, d) met other.met in
     (ap (λ (z : Place × List ℤ). z.0) same, ap (λ (z : Place × List ℤ). z.1) same)

@@ -1,24 +1,24 @@
 -- The interpreter's steps, one after another, are those that the observer sees.
-use Rattle.std.proofs.Common.{◌≡◌, ℕ, zero, suc, ◌<◌, ◌≤◌, Bool, true, false, cond, eqb, ◌||◌, List, [], ◌∷◌, ◌++◌, length, Option, Some, None, ℤ, refl, sym, ap, ◌∙◌, subst, arith, append_assoc, append-nil, slice_set}
-use Rattle.std.proofs.lemmas.Bool.{eqb-true}
+use Rattle.std.proofs.Common.{◌≡◌, ℕ, suc, Bool, true, false, cond, List, [], ◌∷◌, ◌++◌, length, Option, Some, None, ℤ, refl, sym, ap, ◌∙◌, subst, append_assoc, append-nil, slice_set}
 use Rattle.c_ast.specs.declared.place.Place.TheVariants as place
 use Rattle.c_ast.specs.declared.trace.Event.{Event}
 use Rattle.c_ast.specs.declared.interpreter.Item.{Item}
 use Rattle.c_ast.specs.declared.interpreter.Next.TheVariants as next
 use Rattle.c_ast.specs.declared.interpreter.Outcome.{Outcome}
 use Rattle.c_ast.specs.declared.interpreter.Outcome.TheVariants as outcome
-use Rattle.c_ast.specs.Tree.{Expression, Num, Var, Un, Bin, Cond, Statements, Nil, Set, If, Loop, Break, Continue, Return, Mark, Block, Program}
-use Rattle.c_ast.specs.Value.{eval, is_nonzero, VariablesBelow}
+use Rattle.c_ast.specs.Tree.{Expression, Statements, Nil, Set, If, Loop, Break, Continue, Return, Mark, Block, Program}
+use Rattle.c_ast.specs.Value.{eval, is_nonzero}
 use Rattle.c_ast.specs.Step as run
 use Rattle.c_ast.specs.Step.{Scope, is_in, first_variables, LoopParts, Run, Test, Tail, Work, scope_of, values_in, past_tail, to_tail, tested, entered, turned, step, evaluated, start, spread, seen, seen_next}
 use Rattle.c_ast.specs.Segment.{Follows}
-use Rattle.c_ast.specs.Formed.{IsOver, IsSet, AreFormed, IsProgram}
+use Rattle.c_ast.specs.Formed.{AreFormed, IsProgram}
 use Rattle.c_ast.specs.Within.{AreWithin, IsLoopWithin, IsWorkWithin}
 use Rattle.c_ast.specs.Shown.{work_of, bare, bare_next, evaluates_narrow, TakesStep}
 use Rattle.c_ast.specs.Scope.{IsPlace}
 use Rattle.c_ast.specs.Interpreted.{with_first, at_event, returned, interpreted, or_cut_off, outcome_within, IsEvent}
 use Rattle.c_ast.proofs.MarksAhead.{IsAhead, IsAheadNext, ahead_next, ahead_at_start}
 use Rattle.c_ast.proofs.Lengths.{HasLength, length-step, length-spread}
+use Rattle.c_ast.proofs.Scoped.{IsBelow, over_below, set_below, more_below, first_below}
 
 -- ---- scopes make no difference to a step, but at marks
 
@@ -145,31 +145,6 @@ bare_within n (run.Cond s l ∷ w) h = (h.0, bare_within n w h.1)
 bare_within n (Tail s l ∷ w) h = (h.0, bare_within n w h.1)
 
 -- ---- a program's statements are within its variables
-
-record IsBelow (n : ℕ) (s : Scope) : Type 0 where
-  pub by : (x : ℕ) → is_in s x ≡ true → x < n
-
-over_below : (e : Expression) (n : ℕ) (s : Scope) → IsBelow n s → IsOver s e → VariablesBelow n e
-over_below (Num z) n s b h = tt
-over_below (Var x) n s b h = b.by x h
-over_below (Un op e) n s b h = over_below e n s b h
-over_below (Bin op e f) n s b h = (over_below e n s b h.0, over_below f n s b h.1)
-over_below (Cond c e f) n s b h = (over_below c n s b h.0, over_below e n s b h.1, over_below f n s b h.2)
-
-set_below : (t : Bool) (e : Expression) (n : ℕ) (s : Scope) → IsBelow n s → IsSet t s e → VariablesBelow n e
-set_below true e n s b h = over_below e n s b h
-set_below false e n s b h = subst (VariablesBelow n) (sym h) tt
-
-more_below : (n x : ℕ) (s : Scope) → x < n → IsBelow n s → IsBelow n (x ∷ s)
-more_below n x s below b = record { by = λ y h. on y (eqb x y) refl h }
-  where
-    on : (y : ℕ) (t : Bool) → eqb x y ≡ t → (t || is_in s y) ≡ true → y < n
-    on y true is h = subst (λ (z : ℕ). z < n) (eqb-true x y is) below
-    on y false is h = b.by y h
-
-first_below : (p n : ℕ) → p ≤ n → IsBelow n (first_variables p)
-first_below zero n h = record { by = λ x is. cc }
-first_below (suc p) n h = more_below n p (first_variables p) (omega arith) (first_below p n (omega arith))
 
 formed_within : (c : Statements) (n : ℕ) (s : Scope) (in_loop : Bool) → IsBelow n s → AreFormed n s in_loop c → AreWithin n c
 formed_within Nil n s in_loop b h = tt

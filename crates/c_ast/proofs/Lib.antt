@@ -8,6 +8,7 @@ pub mod Following
 pub mod NextPlace
 pub mod MarksAhead
 pub mod Lengths
+pub mod Scoped
 pub mod Places
 pub mod Steps
 pub mod InScope

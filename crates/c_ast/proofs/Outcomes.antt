@@ -18,7 +18,7 @@ pub record Behind (event : Event) (o : Option Outcome) (trace : Trace) : Type 0 
   pub is : o ≡ Some (outcome.Returned later)
   pub whole : record { events = event ∷ later.events; result = later.result } ≡ trace
 
-behind : (event : Event) (o : Option Outcome) (trace : Trace) → with_first event o ≡ Some (outcome.Returned trace) → Behind event o trace
+pub behind : (event : Event) (o : Option Outcome) (trace : Trace) → with_first event o ≡ Some (outcome.Returned trace) → Behind event o trace
 behind event None trace is = cc
 behind event (Some (outcome.Returned later)) trace is = record { later = later; is = refl; whole = (cc) }
 behind event (Some outcome.Wide) trace is = cc

@@ -4,16 +4,8 @@ use Rattle.c_ast.specs.declared.expr.BinOp.TheVariants.{Add, Mul, Less, Equal}
 use Rattle.c_ast.specs.declared.interpreter.Outcome.TheVariants.{Returned, Wide, CutOff}
 use Rattle.c_ast.specs.Tree.{Num, Var, Bin, Nil, Set, If, Loop, Break, Continue, Return, Block, Program}
 use Rattle.c_ast.specs.Interpreted.{outcome_within}
-
--- int f(int n) { int i = 0; int s = 0; while (__mark(42) & (i < n)) { s = s + i; i = i + 1; } return s; }
-sums : Program
-sums = record {
-  params = 1;
-  vars = 3;
-  body =
-      Set 1 (Num (pos 0)) (Set 2 (Num (pos 0))
-      (Loop (Some 42) (Bin Less (Var 1) (Var 0)) (Set 2 (Bin Add (Var 2) (Var 1)) (Set 1 (Bin Add (Var 1) (Num (pos 1))) Nil)) Nil true (Return (Var 2) Nil)));
-}
+use Rattle.c_ast.specs.Judged.{at_most}
+use Rattle.c_ast.specs.Sums.{sums}
 
 sums_two : outcome_within 20 sums (pos 2 ∷ []) ≡ Returned (record {
   events =
@@ -21,12 +13,10 @@ sums_two : outcome_within 20 sums (pos 2 ∷ []) ≡ Returned (record {
       ∷ record { mark = 42; values = pos 2 ∷ pos 2 ∷ pos 1 ∷ [] } ∷ [];
   result = pos 1;
 })
-unfolding sums
 sums_two = refl
 
 -- the last step returns, so one step less cuts the run off
 sums_last : outcome_within 19 sums (pos 2 ∷ []) ≡ CutOff
-unfolding sums
 sums_last = refl
 
 -- int f(int n) { int s = 0; for (int i = 0; __mark(7) & (i < n); i = i + 1) { if (i == 1) continue; s = s + i; } return s; }
@@ -113,3 +103,10 @@ forever = record { params = 0; vars = 0; body = Loop (Some 1) (Num (pos 1)) Nil 
 forever_cut : outcome_within 50 forever [] ≡ CutOff
 unfolding forever
 forever_cut = refl
+
+-- the second mark is one too many, whatever comes behind it; the first is not
+cut_off_at_the_second : at_most 1 1 5 (pos 7 ∷ []) (Some Wide) ≡ Some CutOff
+cut_off_at_the_second = refl
+
+not_at_the_first : at_most 1 0 5 (pos 7 ∷ []) (Some Wide) ≡ Some Wide
+not_at_the_first = refl

@@ -1,9 +1,16 @@
 -- What is seen of a run does not depend on the number of steps that are allowed, where they suffice.
-use Rattle.std.proofs.Common.{◌≡◌, ℕ, zero, suc, List, Option, Some, None, ℤ, refl, sym, ap, ◌∙◌}
+use Rattle.std.proofs.Common.{◌≡◌, ℕ, zero, suc, Bool, true, false, cond, nat_lt, List, Option, Some, None, ℤ, refl, sym, ap, ◌∙◌}
+use Rattle.c_ast.specs.declared.trace.Event.{Event}
 use Rattle.c_ast.specs.declared.trace.Trace.{Trace}
-use Rattle.c_ast.specs.Step.{Work, Next, Goes, Passes, Ends, step, scope_of, values_in, seen, seen_next, start, spread, first_variables}
+use Rattle.c_ast.specs.declared.interpreter.Outcome.{Outcome}
+use Rattle.c_ast.specs.declared.interpreter.Outcome.TheVariants as outcome
+use Rattle.c_ast.specs.Tree.{Expression, Program}
+use Rattle.c_ast.specs.Step.{Work, Next, Goes, Passes, Ends, step, evaluated, scope_of, values_in, seen, seen_next, start, spread, first_variables}
 use Rattle.c_ast.specs.Returns.{always, no_mark, as_it_is}
 use Rattle.c_ast.specs.Trace.{with_event, no_event, trace_within}
+use Rattle.c_ast.specs.Shown.{evaluates_narrow}
+use Rattle.c_ast.specs.Interpreted.{with_first, returned}
+use Rattle.c_ast.specs.Judged.{at_most, IsJudged}
 use Rattle.c_ast.specs.Laws.{ReturnsOnce, HasOneTrace, TraceReturns}
 
 -- ---- an observer that hands on what is seen later
@@ -16,17 +23,24 @@ pub record Agree (R : Type 0) (a b : Option R) : Type 0 where
 pub record KeepsAgreement (R : Type 0) (pass : ℕ → ℕ → List ℤ → Option R → Option R) : Type 0 where
   pub by : (marks mark : ℕ) (values : List ℤ) (a b : Option R) → Agree R a b → Agree R (pass marks mark values a) (pass marks mark values b)
 
-pub seen_agree : (R : Type 0) (pass : ℕ → ℕ → List ℤ → Option R → Option R) (done : ℤ → R) → KeepsAgreement R pass
-    → (i j marks : ℕ) (work : Work) (env : List ℤ) → Agree R (seen always None pass done i marks work env) (seen always None pass done j marks work env)
-seen_agree R pass done keeps zero j marks work env = record { by = λ v w p q. cc }
-seen_agree R pass done keeps (suc i) zero marks work env = record { by = λ v w p q. cc }
-seen_agree R pass done keeps (suc i) (suc j) marks work env = on (step work env) (λ m. seen_agree R pass done keeps i j m)
-  where
-    on : (next : Next) → ((m : ℕ) (work : Work) (env : List ℤ) → Agree R (seen always None pass done i m work env) (seen always None pass done j m work env))
-        → Agree R (seen_next always None pass done (seen always None pass done i) marks next) (seen_next always None pass done (seen always None pass done j) marks next)
-    on (Goes work env) later = later marks work env
-    on (Passes mark work env) later = keeps.by marks mark (values_in (scope_of work) env) _ _ (later (suc marks) work env)
-    on (Ends value) later = record { by = λ v w p q. cc }
+-- whatever is tested
+module _ (R : Type 0) (holds : Option Expression → List ℤ → Bool) (failed : Option R) (pass : ℕ → ℕ → List ℤ → Option R → Option R) (done : ℤ → R) (keeps : KeepsAgreement R pass) where
+  pub seen_agree : (i j marks : ℕ) (work : Work) (env : List ℤ) → Agree R (seen holds failed pass done i marks work env) (seen holds failed pass done j marks work env)
+  seen_agree zero j marks work env = record { by = λ v w p q. cc }
+  seen_agree (suc i) zero marks work env = record { by = λ v w p q. cc }
+  seen_agree (suc i) (suc j) marks work env = at (holds (evaluated work) env) (λ m. seen_agree i j m)
+    where
+      on : (next : Next) → ((m : ℕ) (work : Work) (env : List ℤ) → Agree R (seen holds failed pass done i m work env) (seen holds failed pass done j m work env))
+          → Agree R (seen_next holds failed pass done (seen holds failed pass done i) marks next) (seen_next holds failed pass done (seen holds failed pass done j) marks next)
+      on (Goes work env) later = later marks work env
+      on (Passes mark work env) later = keeps.by marks mark (values_in (scope_of work) env) _ _ (later (suc marks) work env)
+      on (Ends value) later = record { by = λ v w p q. cc }
+
+      at : (is : Bool) → ((m : ℕ) (work : Work) (env : List ℤ) → Agree R (seen holds failed pass done i m work env) (seen holds failed pass done j m work env))
+          → Agree R (cond is (seen_next holds failed pass done (seen holds failed pass done i) marks (step work env)) failed)
+          (cond is (seen_next holds failed pass done (seen holds failed pass done j) marks (step work env)) failed)
+      at true later = on (step work env) later
+      at false later = record { by = λ v w p q. cc }
 
 no_mark-agrees : KeepsAgreement ℤ no_mark
 no_mark-agrees = record { by = λ marks mark values a b same. same }
@@ -39,11 +53,28 @@ with_event-agrees = record { by = λ marks mark values a b same. both marks mark
     both marks mark values (Some s) None same = record { by = λ v w p q. cc }
     both marks mark values (Some s) (Some t) same = record { by = λ v w p q. let equal : s ≡ t = same.by s t refl refl in cc }
 
+with_first-agrees : (event : Event) (a b : Option Outcome) → Agree Outcome a b → Agree Outcome (with_first event a) (with_first event b)
+with_first-agrees event None b same = record { by = λ o p h k. cc }
+with_first-agrees event (Some u) None same = record { by = λ o p h k. cc }
+with_first-agrees event (Some u) (Some v) same = record { by = λ o p h k. let both : Some o ≡ Some p = sym h ∙ ap (λ w. with_first event (Some w)) (same.by u v refl refl) ∙ k in cc }
+
+pub at_most-agrees : (limit : ℕ) → KeepsAgreement Outcome (at_most limit)
+at_most-agrees limit = record { by = λ marks mark values a b same. on (nat_lt marks limit) (record { mark = mark; values = values }) a b same }
+  where
+    on : (under : Bool) (event : Event) (a b : Option Outcome) → Agree Outcome a b
+        → Agree Outcome (cond under (with_first event a) (Some outcome.CutOff)) (cond under (with_first event b) (Some outcome.CutOff))
+    on true event a b same = with_first-agrees event a b same
+    on false event a b same = record { by = λ o p h k. cc }
+
 pub returns_once : ReturnsOnce
-returns_once f inputs v w p q = (seen_agree ℤ no_mark as_it_is no_mark-agrees p.steps q.steps 0 _ _).by v w p.ends q.ends
+returns_once f inputs v w p q = (seen_agree ℤ always None no_mark as_it_is no_mark-agrees p.steps q.steps 0 _ _).by v w p.ends q.ends
 
 pub one_trace : HasOneTrace
-one_trace f inputs s t p q = (seen_agree Trace with_event no_event with_event-agrees p.steps q.steps 0 _ _).by s t p.ran q.ran
+one_trace f inputs s t p q = (seen_agree Trace always None with_event no_event with_event-agrees p.steps q.steps 0 _ _).by s t p.ran q.ran
+
+-- what a run is judged to be is determined
+pub judged_once : (f : Program) (inputs : List ℤ) (limit : ℕ) (o p : Outcome) → IsJudged f inputs limit o → IsJudged f inputs limit p → o ≡ p
+judged_once f inputs limit o p h k = (seen_agree Outcome evaluates_narrow (Some outcome.Wide) (at_most limit) returned (at_most-agrees limit) h.steps k.steps 0 _ _).by o p h.is k.is
 
 -- ---- the result of a trace
 

@@ -18,3 +18,5 @@ pub mod Shown
 pub mod Within
 pub mod Scope
 pub mod Interpreted
+pub mod Judged
+pub mod Sums

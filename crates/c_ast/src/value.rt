@@ -25,6 +25,7 @@ fn test_value(test: bool) -> i128
     if test { 1 } else { 0 }
 }
 
+/// Whether a condition or an operand with this value counts as true: all but 0 does (ISO C11, 6.5.13 to 6.5.15, 6.8.4.1).
 pub(crate) fn is_nonzero(value: i128) -> bool
     ensures { result ≡ is_nonzero value }
 {

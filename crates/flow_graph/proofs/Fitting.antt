@@ -5,11 +5,11 @@ use Rattle.c_ast.specs.Tree.{Expression, Statements}
 use Rattle.c_ast.specs.Value.{VariablesBelow}
 use Rattle.c_ast.specs.Step.{Scope, is_in}
 use Rattle.c_ast.specs.Formed.{BeginsWithMark, PassesMark, AreFormed}
+use Rattle.c_ast.proofs.Scoped.{IsBelow, over_below, set_below, more_below}
 use Rattle.flow_graph.specs.Operation.{Operation, Set, Branch, Mark, Return}
 use Rattle.flow_graph.specs.Layout.{Slots, added, filled, lay}
 use Rattle.flow_graph.specs.WellFormed.{IsMark, Leads, Fits}
 use Rattle.flow_graph.proofs.Growing.{grows_trans, grows_one, grows_length, behind_open, open_more, set_open, lay_grows}
-use Rattle.flow_graph.proofs.Scoped.{IsBelow, over_below, set_below, more_below}
 use Rattle.flow_graph.proofs.Laid.{Table, Extends, grows_extends, filled_extends, table_of, table_at}
 
 -- ---- with more nodes

@@ -3,7 +3,6 @@ pub mod Laid
 pub mod Closing
 pub mod Simulates
 pub mod Counting
-pub mod Scoped
 pub mod Fitting
 pub mod Stopping
 pub mod Listing

@@ -2,17 +2,15 @@
 use Rattle.std.proofs.Common.{◌≡◌, false, [], ◌∷◌, Some, None, pos, negsuc, refl}
 use Rattle.c_ast.specs.declared.expr.BinOp.TheVariants.{Add, Less}
 use Rattle.c_ast.specs.declared.place.Place.TheVariants as place
-use Rattle.c_ast.specs.declared.interpreter.Outcome.TheVariants.{Wide, CutOff}
 use Rattle.c_ast.specs.Tree as tree
 use Rattle.c_ast.specs.Tree.{Num, Var, Bin}
+use Rattle.c_ast.specs.Sums.{sums}
 use Rattle.flow_graph.specs.declared.stop.Stop.{Stop}
 use Rattle.flow_graph.specs.Operation.{Set, Branch, Mark, Return}
 use Rattle.flow_graph.specs.FlowGraph.{FlowGraph, node_after, variables_at, places_of}
 use Rattle.flow_graph.specs.Run.{Goes, Passes, Ends, turn, values_of}
-use Rattle.flow_graph.specs.Judged.{at_most}
 use Rattle.flow_graph.specs.Layout.{layout, lay}
 use Rattle.flow_graph.specs.Stops.{with_stop}
-use Rattle.flow_graph.specs.Sums.{sums}
 
 -- the mark's node stands before the test's, and the body leads back to the mark
 sums_laid : lay sums.body (Some (Return (Num (pos 0))) ∷ []) 0 0 0
@@ -90,10 +88,3 @@ passes = refl
 
 ends : turn (Return (Var 0)) (pos 7 ∷ []) ≡ Ends (pos 7)
 ends = refl
-
--- the second mark is one too many, whatever comes behind it; the first is not
-cut_off_at_the_second : at_most 1 1 5 (pos 7 ∷ []) (Some Wide) ≡ Some CutOff
-cut_off_at_the_second = refl
-
-not_at_the_first : at_most 1 0 5 (pos 7 ∷ []) (Some Wide) ≡ Some Wide
-not_at_the_first = refl

@@ -23,8 +23,10 @@ use Rattle.c_ast.specs.Formed.{marks}
 use Rattle.c_ast.specs.Scope.{IsPlace, variables_in}
 use Rattle.c_ast.specs.Shown.{evaluates_narrow}
 use Rattle.c_ast.specs.Interpreted.{returned}
+use Rattle.c_ast.specs.Judged.{at_most}
 use Rattle.c_ast.proofs.MarksAhead.{IsAhead, ahead_at_start, ahead_after}
 use Rattle.c_ast.proofs.Lengths.{length-spread}
+use Rattle.c_ast.proofs.Scoped.{first_below}
 use Rattle.c_ast.proofs.Environments.{values_in-listed}
 use Rattle.flow_graph.specs.declared.op.Op.{Op}
 use Rattle.flow_graph.specs.declared.stop.Stop.{Stop}
@@ -32,7 +34,6 @@ use Rattle.flow_graph.specs.Operation.{Operation, Mark, Return, operation_of}
 use Rattle.flow_graph.specs.FlowGraph.{FlowGraph, operation_at, stop_of, next_of, scope_of_stop, node_after, variables_at, GoesOnAt}
 use Rattle.flow_graph.specs.Run.{values_of, seen_from}
 use Rattle.flow_graph.specs.WellFormed.{Fits, IsFlowGraph}
-use Rattle.flow_graph.specs.Judged.{at_most}
 use Rattle.flow_graph.specs.Built.{IsGraphOf}
 use Rattle.flow_graph.specs.Layout.{Slots, slots_of, Layout, layout, added, lay}
 use Rattle.flow_graph.specs.Stops.{Rises, AreRising, Marks, MarksOf, AreStops}
@@ -41,7 +42,6 @@ use Rattle.flow_graph.proofs.Laid.{Table, TestLaid, Laid, LoopLaid, IsEnd, WorkL
 use Rattle.flow_graph.proofs.Closing.{opens, closed_table, closed_length}
 use Rattle.flow_graph.proofs.Counting.{slot_marks, some_marks, one_node, lay_counts, stands_somewhere}
 use Rattle.flow_graph.proofs.Fitting.{LayFits, lay_fits, fits_more}
-use Rattle.flow_graph.proofs.Scoped.{first_below}
 use Rattle.flow_graph.proofs.Listing.{spread-variables_in, variables_in-All}
 use Rattle.flow_graph.proofs.Simulates.{Shows, AcceptsNone, OfGraph, OfSource, forward, backward}
 

@@ -7,9 +7,10 @@ use Rattle.c_ast.specs.Tree.{Program}
 use Rattle.c_ast.specs.Trace.{IsTrace}
 use Rattle.c_ast.specs.Segment.{IsSegment}
 use Rattle.c_ast.specs.Scope.{IsPlace, AreInScope}
+use Rattle.c_ast.specs.Judged.{IsJudged}
 use Rattle.flow_graph.specs.FlowGraph.{FlowGraph, variables_at, GoesOnAt}
 use Rattle.flow_graph.specs.Run.{IsGraphTrace, IsGraphSegment}
-use Rattle.flow_graph.specs.Judged.{IsJudged, IsGraphJudged}
+use Rattle.flow_graph.specs.Judged.{IsGraphJudged}
 
 -- The graph has the function's parameters, variables and places, with the same variables in scope there; and its traces,
 -- its segments from every place, and what its runs are judged to be are those of the source's steps.

@@ -6,4 +6,3 @@ pub mod Judged
 pub mod Built
 pub mod Layout
 pub mod Stops
-pub mod Sums

@@ -1,6 +1,6 @@
 -- What a run is judged to be is determined, and a trace among it is the function's.
 use Rattle.std.proofs.lemmas.Bool.Decides.{nat_tests}
-use Rattle.std.proofs.Common.{◌≡◌, ℕ, zero, suc, ◌+◌, ◌≤◌, Bool, true, false, cond, nat_lt, List, ◌∷◌, length, Option, Some, None, ℤ, refl, sym, ap, ◌∙◌, arith}
+use Rattle.std.proofs.Common.{◌≡◌, ℕ, zero, suc, ◌+◌, ◌≤◌, Bool, true, false, cond, nat_lt, List, length, Option, Some, None, ℤ, refl, sym, ap, ◌∙◌, arith}
 use Rattle.c_ast.specs.declared.trace.Event.{Event}
 use Rattle.c_ast.specs.declared.trace.Trace.{Trace}
 use Rattle.c_ast.specs.declared.interpreter.Outcome.{Outcome}
@@ -11,76 +11,51 @@ use Rattle.c_ast.specs.Step.{Work, scope_of, values_in, first_variables, start, 
 use Rattle.c_ast.specs.Shown.{evaluates_narrow}
 use Rattle.c_ast.specs.Trace.{no_event}
 use Rattle.c_ast.specs.Interpreted.{with_first, at_event, returned, interpreted, or_cut_off}
-use Rattle.c_ast.proofs.Outcomes.{outcome_is_trace}
+use Rattle.c_ast.specs.Judged.{at_most}
+use Rattle.c_ast.proofs.Runs.{Agree, at_most-agrees}
+use Rattle.c_ast.proofs.Outcomes.{behind, outcome_is_trace}
 use Rattle.flow_graph.specs.Operation.{Operation}
 use Rattle.flow_graph.specs.FlowGraph.{FlowGraph, operation_at, variables_at}
 use Rattle.flow_graph.specs.Run as graph
 use Rattle.flow_graph.specs.Run.{Turn, turn, operand, values_of, seen_turn, seen_at, seen_from}
-use Rattle.flow_graph.specs.Judged.{at_most}
 use Rattle.graph_run.specs.Laws.{HasOneOutcome, JudgedIsTrace}
 
 -- ---- one outcome
-
-same_first : (event : Event) (a b : Option Outcome) (o p : Outcome) → with_first event a ≡ Some o → with_first event b ≡ Some p → ((u v : Outcome) → a ≡ Some u → b ≡ Some v → u ≡ v) → o ≡ p
-same_first event None b o p h k more = cc
-same_first event (Some u) None o p h k more = cc
-same_first event (Some u) (Some v) o p h k more =
-    let same : Some u ≡ Some v = ap Some (more u v refl refl) in
-    let both : Some o ≡ Some p = sym h ∙ ap (with_first event) same ∙ k in
-    cc
 
 module _ (g : FlowGraph) (limit : ℕ) where
   abbrev S : ℕ → ℕ → ℕ → List ℤ → Option Outcome
   S = seen_from evaluates_narrow (Some outcome.Wide) (at_most limit) returned g
 
   abbrev Same : ℕ → ℕ → Type 0
-  Same n k = (m node : ℕ) (env : List ℤ) (o p : Outcome) → S n m node env ≡ Some o → S k m node env ≡ Some p → o ≡ p
+  Same n k = (m node : ℕ) (env : List ℤ) → Agree Outcome (S n m node env) (S k m node env)
 
-  same_turn : (n k m : ℕ) (t : Turn) (o p : Outcome) → Same n k → seen_turn evaluates_narrow (Some outcome.Wide) (at_most limit) returned g (S n) m t ≡ Some o
-      → seen_turn evaluates_narrow (Some outcome.Wide) (at_most limit) returned g (S k) m t ≡ Some p → o ≡ p
-  same_turn n k m (graph.Goes node env) o p more h l = more m node env o p h l
-  same_turn n k m (graph.Passes mark node env) o p more h l = on (nat_lt m limit) h l
-    where
-      on : (t : Bool) → cond t (with_first (record { mark = mark; values = values_of (variables_at g (place.Mark mark)) env }) (S n (suc m) node env)) (Some outcome.CutOff) ≡ Some o
-          → cond t (with_first (record { mark = mark; values = values_of (variables_at g (place.Mark mark)) env }) (S k (suc m) node env)) (Some outcome.CutOff) ≡ Some p → o ≡ p
-      on true h l = same_first _ (S n (suc m) node env) (S k (suc m) node env) o p h l (λ u v q r. more (suc m) node env u v q r)
-      on false h l = cc
-  same_turn n k m (graph.Ends value) o p more h l = cc
+  same_turn : (n k m : ℕ) (t : Turn) → Same n k
+      → Agree Outcome (seen_turn evaluates_narrow (Some outcome.Wide) (at_most limit) returned g (S n) m t) (seen_turn evaluates_narrow (Some outcome.Wide) (at_most limit) returned g (S k) m t)
+  same_turn n k m (graph.Goes node env) more = more m node env
+  same_turn n k m (graph.Passes mark node env) more =
+      (at_most-agrees limit).by m mark (values_of (variables_at g (place.Mark mark)) env) _ _ (more (suc m) node env)
+  same_turn n k m (graph.Ends value) more = record { by = λ o p h l. cc }
 
-  same_at : (n k m : ℕ) (op : Option Operation) (env : List ℤ) (o p : Outcome) → Same n k → seen_at evaluates_narrow (Some outcome.Wide) (at_most limit) returned g (S n) m op env ≡ Some o
-      → seen_at evaluates_narrow (Some outcome.Wide) (at_most limit) returned g (S k) m op env ≡ Some p → o ≡ p
-  same_at n k m None env o p more h l = cc
-  same_at n k m (Some op) env o p more h l = on (evaluates_narrow (operand op) env) h l
+  same_at : (n k m : ℕ) (op : Option Operation) (env : List ℤ) → Same n k
+      → Agree Outcome (seen_at evaluates_narrow (Some outcome.Wide) (at_most limit) returned g (S n) m op env) (seen_at evaluates_narrow (Some outcome.Wide) (at_most limit) returned g (S k) m op env)
+  same_at n k m None env more = record { by = λ o p h l. cc }
+  same_at n k m (Some op) env more = on (evaluates_narrow (operand op) env)
     where
-      on : (t : Bool) → cond t (seen_turn evaluates_narrow (Some outcome.Wide) (at_most limit) returned g (S n) m (turn op env)) (Some outcome.Wide) ≡ Some o
-          → cond t (seen_turn evaluates_narrow (Some outcome.Wide) (at_most limit) returned g (S k) m (turn op env)) (Some outcome.Wide) ≡ Some p → o ≡ p
-      on true h l = same_turn n k m (turn op env) o p more h l
-      on false h l = cc
+      on : (t : Bool)
+          → Agree Outcome (cond t (seen_turn evaluates_narrow (Some outcome.Wide) (at_most limit) returned g (S n) m (turn op env)) (Some outcome.Wide))
+          (cond t (seen_turn evaluates_narrow (Some outcome.Wide) (at_most limit) returned g (S k) m (turn op env)) (Some outcome.Wide))
+      on true = same_turn n k m (turn op env) more
+      on false = record { by = λ o p h l. cc }
 
   same : (n k : ℕ) → Same n k
-  same zero k m node env o p h l = cc
-  same (suc n) zero m node env o p h l = cc
-  same (suc n) (suc k) m node env o p h l = same_at n k m (operation_at g node) env o p (same n k) h l
+  same zero k m node env = record { by = λ o p h l. cc }
+  same (suc n) zero m node env = record { by = λ o p h l. cc }
+  same (suc n) (suc k) m node env = same_at n k m (operation_at g node) env (same n k)
 
 pub one_outcome : HasOneOutcome
-one_outcome g inputs limit o p h l = same g limit h.steps l.steps 0 g.entry (spread (first_variables g.params) g.vars inputs) o p h.is l.is
+one_outcome g inputs limit o p h l = (same g limit h.steps l.steps 0 g.entry (spread (first_variables g.params) g.vars inputs)).by o p h.is l.is
 
 -- ---- traces
-
--- what a first event stands in front of
-record Behind (event : Event) (later : Option Outcome) (trace : Trace) : Type 0 where
-  more : Trace
-  is : later ≡ Some (outcome.Returned more)
-  whole : with_first event (Some (outcome.Returned more)) ≡ Some (outcome.Returned trace)
-  size : length trace.events ≡ suc (length more.events)
-
-behind : (event : Event) (later : Option Outcome) (trace : Trace) → with_first event later ≡ Some (outcome.Returned trace) → Behind event later trace
-behind event None trace is = cc
-behind event (Some (outcome.Returned more)) trace is =
-    let same : record { events = event ∷ more.events; result = more.result } ≡ trace = cc in
-    record { more = more; is = refl; whole = is; size = ap (λ (t : Trace). length t.events) (sym same) }
-behind event (Some outcome.Wide) trace is = cc
-behind event (Some outcome.CutOff) trace is = cc
 
 module _ (limit : ℕ) where
   abbrev J : ℕ → ℕ → Work → List ℤ → Option Outcome
@@ -99,8 +74,9 @@ module _ (limit : ℕ) where
           → (with_first (record { mark = mark; values = values_in (scope_of w) env }) (interpreted n (suc m) w env) ≡ Some (outcome.Returned trace)) × (m + length trace.events ≤ limit)
       on true under is =
           let b = behind (record { mark = mark; values = values_in (scope_of w) env }) (J n (suc m) w env) trace is in
-          let o = more (suc m) w env b.more (grind (arith, nat_tests)) b.is in
-          (ap (with_first (record { mark = mark; values = values_in (scope_of w) env })) o.0 ∙ b.whole, omega (arith, o.1, b.size))
+          let o = more (suc m) w env b.later (grind (arith, nat_tests)) b.is in
+          let size : length trace.events ≡ suc (length b.later.events) = ap (λ (t : Trace). length t.events) (sym b.whole) in
+          (ap (with_first (record { mark = mark; values = values_in (scope_of w) env })) o.0 ∙ ap (λ t. Some (outcome.Returned t)) b.whole, omega (arith, o.1, size))
       on false over is = cc
   next_run n m (run.Ends value) trace more few is =
       let same : no_event value ≡ trace = cc in

@@ -15,13 +15,14 @@ use Rattle.c_ast.specs.Step.{first_variables, spread}
 use Rattle.c_ast.specs.Shown.{evaluates_narrow}
 use Rattle.c_ast.specs.Interpreted.{with_first, returned}
 use Rattle.c_ast.proofs.Lengths.{length-spread}
+use Rattle.c_ast.specs.Judged.{at_most}
 use Rattle.flow_graph.specs.declared.op.Op.{Op}
 use Rattle.flow_graph.specs.Operation.{Operation, Set, Branch, Mark, Return, operation_of}
 use Rattle.flow_graph.specs.FlowGraph.{FlowGraph, operation_at, scope_of_stop, variables_at, HasPlace}
 use Rattle.flow_graph.specs.Run as graph
 use Rattle.flow_graph.specs.Run.{Turn, turn, operand, values_of, seen_turn, seen_at, seen_from}
 use Rattle.flow_graph.specs.WellFormed.{IsMark, Leads, Fits, IsFlowGraph}
-use Rattle.flow_graph.specs.Judged.{at_most, IsGraphJudged}
+use Rattle.flow_graph.specs.Judged.{IsGraphJudged}
 use Rattle.graph_run.specs.declared.step.Next.{Next}
 use Rattle.graph_run.specs.declared.step.Next.TheVariants as next
 use Rattle.graph_run.specs.Step.{VariablesAre, TakesStep}

@@ -5,8 +5,9 @@ use Rattle.c_ast.specs.declared.interpreter.Outcome.{Outcome}
 use Rattle.c_ast.specs.declared.interpreter.Outcome.TheVariants as outcome
 use Rattle.c_ast.specs.Tree.{Program}
 use Rattle.c_ast.specs.Trace.{IsTrace}
+use Rattle.c_ast.specs.Judged.{IsJudged}
 use Rattle.flow_graph.specs.FlowGraph.{FlowGraph}
-use Rattle.flow_graph.specs.Judged.{IsJudged, IsGraphJudged}
+use Rattle.flow_graph.specs.Judged.{IsGraphJudged}
 
 -- A graph's run has at most one outcome.
 abbrev pub HasOneOutcome : Type 0

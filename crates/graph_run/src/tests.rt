@@ -6,7 +6,7 @@ ghost use Rattle.c_ast.specs.Tree.{Statements};
 ghost use Rattle.c_ast.specs.Narrow.{is_narrow};
 ghost use Rattle.c_ast.specs.View.{expression_of, put_in_front, statements_of};
 ghost use Rattle.c_ast.specs.Function.{program_of};
-ghost use Rattle.flow_graph.specs.Sums.{sums};
+ghost use Rattle.c_ast.specs.Sums.{sums};
 
 use crate::{Skip, run};
 use c_ast::{BinOp, Expr, Func, Name, Place, Stmt, Trace, Var};

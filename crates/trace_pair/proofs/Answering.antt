@@ -9,7 +9,7 @@ use Rattle.c_ast.specs.declared.trace.Pair.{Pair}
 use Rattle.c_ast.specs.Tree.{Program}
 use Rattle.c_ast.specs.Function.{program_of}
 use Rattle.c_ast.specs.Comparison.{Comparison}
-use Rattle.c_ast.proofs.Runs.{trace_returns}
+use Rattle.c_ast.proofs.Runs.{judged_once, trace_returns}
 use Rattle.graph_run.specs.declared.skip.Skip.{Skip}
 use Rattle.graph_run.specs.declared.skip.Skip.TheVariants as skip
 use Rattle.graph_run.specs.Answers.{AreNarrow}
@@ -18,7 +18,6 @@ use Rattle.trace_pair.specs.Inputs.{IsNear}
 use Rattle.trace_pair.specs.Pairs.{input_at, ReturnsWithin, MeetsFirst, IsPair, IsSkippedOn}
 use Rattle.trace_pair.specs.Laws.{IsOnePair, IsOneSkip, PairIsNoSkip, IsTraceWithin, PairHasTraces}
 use Rattle.trace_pair.proofs.Inputting.{length_of_input, near_input_of, near_are_narrow}
-use Rattle.trace_pair.proofs.Judging.{judged_once}
 use Rattle.trace_pair.proofs.Narrowing.{judged_is_narrow}
 
 -- ---- one run

@@ -1,7 +1,6 @@
 pub mod Grid
 pub mod Words
 pub mod Inputting
-pub mod Judging
 pub mod Narrowing
 pub mod Answering
 pub mod Samples

@@ -8,14 +8,14 @@ use Rattle.c_ast.specs.declared.interpreter.Outcome.TheVariants as outcome
 use Rattle.c_ast.specs.Tree.{Nil, Set, If, Loop, Break, Continue, Return, Mark, Block, Program}
 use Rattle.c_ast.specs.Value.{eval}
 use Rattle.c_ast.specs.Narrow.{is_narrow}
-use Rattle.c_ast.specs.Step.{Scope, Work, Run, Test, Cond, Tail, Next, Goes, Passes, Ends, is_in, step, tested, evaluated, scope_of, with_value, values_from, values_in, first_variables, seen_next}
+use Rattle.c_ast.specs.Step.{Scope, Work, Run, Test, Cond, Tail, Next, Goes, Passes, Ends, is_in, step, tested, evaluated, scope_of, with_value, values_from, values_in, first_variables, seen, seen_next}
 use Rattle.c_ast.specs.Shown.{evaluates_narrow}
 use Rattle.c_ast.specs.Trace.{no_event}
 use Rattle.c_ast.specs.Interpreted.{with_first, returned}
-use Rattle.flow_graph.specs.Judged.{at_most, IsJudged}
+use Rattle.c_ast.specs.Judged.{at_most, IsJudged}
+use Rattle.c_ast.proofs.Outcomes.{behind}
 use Rattle.graph_run.specs.Answers.{AreNarrow, IsNarrow}
 use Rattle.graph_run.proofs.Narrowness.{value_narrow, set_narrow, spread_narrow}
-use Rattle.trace_pair.proofs.Judging.{Judged}
 
 abbrev NextIsNarrow : Next → Type 0
 NextIsNarrow (Goes work env) = AreNarrow env
@@ -52,39 +52,41 @@ scope_is_narrow scope i (value ∷ env) all =
 
 first_is_narrow : (event : Event) (later : Option Outcome) (trace : Trace) → AreNarrow event.values → ((more : Trace) → later ≡ Some (outcome.Returned more) → IsNarrow more)
     → with_first event later ≡ Some (outcome.Returned trace) → IsNarrow trace
-first_is_narrow event None trace values others is = cc
-first_is_narrow event (Some (outcome.Returned more)) trace values others is =
-    let same : record { events = event ∷ more.events; result = more.result } ≡ trace = cc in
-    let narrow = others more refl in
-    let events = All-cons (λ e. AreNarrow e.values) event more.events values narrow.events in
-    subst IsNarrow same (record { events = events; result = narrow.result })
-first_is_narrow event (Some outcome.Wide) trace values others is = cc
-first_is_narrow event (Some outcome.CutOff) trace values others is = cc
+first_is_narrow event later trace values others is =
+    let b = behind event later trace is in
+    let narrow = others b.later b.is in
+    subst IsNarrow b.whole (record { events = All-cons (λ e. AreNarrow e.values) event b.later.events values narrow.events; result = narrow.result })
 
-judged_narrow : (limit n marks : ℕ) (work : Work) (env : List ℤ) (trace : Trace) → AreNarrow env → Judged limit n marks work env ≡ Some (outcome.Returned trace) → IsNarrow trace
-judged_narrow limit zero marks work env trace all is = cc
-judged_narrow limit (suc n) marks work env trace all is = at (evaluates_narrow (evaluated work) env) refl is (λ m. judged_narrow limit n m)
-  where
-    on : (next : Next) → NextIsNarrow next → ((m : ℕ) (work : Work) (env : List ℤ) (trace : Trace) → AreNarrow env → Judged limit n m work env ≡ Some (outcome.Returned trace) → IsNarrow trace)
-        → seen_next evaluates_narrow (Some outcome.Wide) (at_most limit) returned (Judged limit n) marks next ≡ Some (outcome.Returned trace) → IsNarrow trace
-    on (Goes work env) all later is = later marks work env trace all is
-    on (Passes mark work env) all later is = under (nat_lt marks limit) is
-      where
-        event : Event
-        event = record { mark = mark; values = values_in (scope_of work) env }
+-- ---- what a run is judged to be
 
-        under : (few : Bool) → cond few (with_first event (Judged limit n (suc marks) work env)) (Some outcome.CutOff) ≡ Some (outcome.Returned trace) → IsNarrow trace
-        under true is = first_is_narrow event (Judged limit n (suc marks) work env) trace (scope_is_narrow (scope_of work) 0 env all) (λ more. later (suc marks) work env more all) is
-        under false is = cc
-    on (Ends value) all later is =
-        let same : no_event value ≡ trace = cc in
-        subst IsNarrow same (record { events = All-nil (λ (e : Event). AreNarrow e.values); result = all })
+module _ (limit : ℕ) where
+  abbrev Judged : ℕ → ℕ → Work → List ℤ → Option Outcome
+  Judged = seen evaluates_narrow (Some outcome.Wide) (at_most limit) returned
 
-    at : (holds : Bool) → evaluates_narrow (evaluated work) env ≡ holds
-        → cond holds (seen_next evaluates_narrow (Some outcome.Wide) (at_most limit) returned (Judged limit n) marks (step work env)) (Some outcome.Wide) ≡ Some (outcome.Returned trace)
-        → ((m : ℕ) (work : Work) (env : List ℤ) (trace : Trace) → AreNarrow env → Judged limit n m work env ≡ Some (outcome.Returned trace) → IsNarrow trace) → IsNarrow trace
-    at true holds is later = on (step work env) (step_is_narrow work env all holds) later is
-    at false holds is later = cc
+  judged_narrow : (n marks : ℕ) (work : Work) (env : List ℤ) (trace : Trace) → AreNarrow env → Judged n marks work env ≡ Some (outcome.Returned trace) → IsNarrow trace
+  judged_narrow zero marks work env trace all is = cc
+  judged_narrow (suc n) marks work env trace all is = at (evaluates_narrow (evaluated work) env) refl is (λ m. judged_narrow n m)
+    where
+      on : (next : Next) → NextIsNarrow next → ((m : ℕ) (work : Work) (env : List ℤ) (trace : Trace) → AreNarrow env → Judged n m work env ≡ Some (outcome.Returned trace) → IsNarrow trace)
+          → seen_next evaluates_narrow (Some outcome.Wide) (at_most limit) returned (Judged n) marks next ≡ Some (outcome.Returned trace) → IsNarrow trace
+      on (Goes work env) all later is = later marks work env trace all is
+      on (Passes mark work env) all later is = under (nat_lt marks limit) is
+        where
+          event : Event
+          event = record { mark = mark; values = values_in (scope_of work) env }
+
+          under : (few : Bool) → cond few (with_first event (Judged n (suc marks) work env)) (Some outcome.CutOff) ≡ Some (outcome.Returned trace) → IsNarrow trace
+          under true is = first_is_narrow event (Judged n (suc marks) work env) trace (scope_is_narrow (scope_of work) 0 env all) (λ more. later (suc marks) work env more all) is
+          under false is = cc
+      on (Ends value) all later is =
+          let same : no_event value ≡ trace = cc in
+          subst IsNarrow same (record { events = All-nil (λ (e : Event). AreNarrow e.values); result = all })
+
+      at : (holds : Bool) → evaluates_narrow (evaluated work) env ≡ holds
+          → cond holds (seen_next evaluates_narrow (Some outcome.Wide) (at_most limit) returned (Judged n) marks (step work env)) (Some outcome.Wide) ≡ Some (outcome.Returned trace)
+          → ((m : ℕ) (work : Work) (env : List ℤ) (trace : Trace) → AreNarrow env → Judged n m work env ≡ Some (outcome.Returned trace) → IsNarrow trace) → IsNarrow trace
+      at true holds is later = on (step work env) (step_is_narrow work env all holds) later is
+      at false holds is later = cc
 
 pub judged_is_narrow : (f : Program) (inputs : List ℤ) (limit : ℕ) (trace : Trace) → AreNarrow inputs → IsJudged f inputs limit (outcome.Returned trace) → IsNarrow trace
 judged_is_narrow f inputs limit trace all h = judged_narrow limit h.steps 0 _ _ trace (spread_narrow (first_variables f.params) 0 f.vars inputs all) h.is

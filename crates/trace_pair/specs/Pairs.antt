@@ -8,7 +8,7 @@ use Rattle.c_ast.specs.declared.trace.Pair.{Pair}
 use Rattle.c_ast.specs.Tree.{Program}
 use Rattle.c_ast.specs.Function.{program_of}
 use Rattle.c_ast.specs.Comparison.{Comparison}
-use Rattle.flow_graph.specs.Judged.{IsJudged}
+use Rattle.c_ast.specs.Judged.{IsJudged}
 use Rattle.graph_run.specs.declared.skip.Skip.{Skip}
 use Rattle.graph_run.specs.declared.skip.Skip.TheVariants as skip
 use Rattle.trace_pair.specs.declared.skipped.Skipped.{Skipped}
