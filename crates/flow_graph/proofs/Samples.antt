@@ -25,7 +25,6 @@ sums_laid : lay sums.body (Some (Return (Num (pos 0))) ∷ []) 0 0 0
     ∷ Some (Set 1 (Num (pos 0)) 6)
     ∷ []
     ) 7
-unfolding sums
 sums_laid = refl
 
 -- do { __mark(7); if (x) continue; break; } while (x);
