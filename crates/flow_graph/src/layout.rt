@@ -3,12 +3,12 @@
 //! A loop's test is reached from its body, so a slot is kept open for it and filled when the body is laid.
 ghost use Rattle.std.specs.Prelude.{◌≡◌, ◌<◌, ◌^◌, [], ◌∷◌, ◌++◌, length, filter_map, OnOk, IfOk, Some, None};
 ghost use Rattle.std.specs.Option.{option_map};
-ghost use Rattle.c_ast.specs.View.{put_in_front, statements_of};
-ghost use Rattle.flow_graph.specs.Operation.{operation_of};
+ghost use Rattle.c_ast.specs.View.{put_in_front, expression_of, statements_of};
+ghost use Rattle.flow_graph.specs.Operation.{Set, Branch, operation_of};
 ghost use Rattle.flow_graph.specs.Layout.{Layout, layout, slots_of, added, filled, lay, Lays};
 
 use crate::Op;
-use c_ast::{Stmt, copy_expr};
+use c_ast::{Expr, Stmt, copy_expr};
 use std::alloc::{AllocError, Global};
 
 /// One more slot, and its number, which is below 2^32 - 1.
@@ -22,6 +22,22 @@ pub(crate) fn add(slots: &mut Vec<Option<Op>>, op: Option<Op>) -> Result<u32, Al
     }
     slots.push(op)?;
     Ok(node as u32)
+}
+
+/// The node that sets a variable to a copy of this value.
+fn set(alloc: Global, var: u32, value: &Expr, next: u32) -> Result<Op, AllocError>
+    ensures { IfOk result (λ op. operation_of op ≡ Set var (expression_of value.now) next) }
+{
+    let value = copy_expr(alloc, value)?;
+    Ok(Op::Set { var, value, next })
+}
+
+/// The node that chooses by a copy of this condition.
+fn branch(alloc: Global, cond: &Expr, yes: u32, no: u32) -> Result<Op, AllocError>
+    ensures { IfOk result (λ op. operation_of op ≡ Branch (expression_of cond.now) yes no) }
+{
+    let cond = copy_expr(alloc, cond)?;
+    Ok(Op::Branch { cond, yes, no })
 }
 
 /// Fills the open slot of a loop's test. Where the loop has a mark, that comes first.
@@ -89,21 +105,14 @@ fn lay_one(
 {
     match stmt {
         Stmt::Set(var, value) => {
-            let value = copy_expr(alloc, value)?;
-            let set = Op::Set {
-                var: *var,
-                value,
-                next,
-            };
-            let node = add(slots, Some(set))?;
-            Ok(node)
+            let set = set(alloc, *var, value, next)?;
+            add(slots, Some(set))
         }
         Stmt::If(cond, first, second) => {
             let yes = lay(alloc, slots, first.as_slice(), next, out, again)?;
             let no = lay(alloc, slots, second.as_slice(), next, out, again)?;
-            let cond = copy_expr(alloc, cond)?;
-            let node = add(slots, Some(Op::Branch { cond, yes, no }))?;
-            Ok(node)
+            let branch = branch(alloc, cond, yes, no)?;
+            add(slots, Some(branch))
         }
         Stmt::Loop {
             mark,
@@ -115,12 +124,7 @@ fn lay_one(
             let head = add(slots, None)?;
             let tail = lay(alloc, slots, step.as_slice(), head, out, again)?;
             let inner = lay(alloc, slots, body.as_slice(), tail, next, tail)?;
-            let cond = copy_expr(alloc, cond)?;
-            let test = Op::Branch {
-                cond,
-                yes: inner,
-                no: next,
-            };
+            let test = branch(alloc, cond, inner, next)?;
             fill(slots, head, mark, test)?;
             Ok(if *test_first { head } else { inner })
         }
@@ -128,17 +132,10 @@ fn lay_one(
         Stmt::Continue => Ok(again),
         Stmt::Return(value) => {
             let value = copy_expr(alloc, value)?;
-            let node = add(slots, Some(Op::Return(value)))?;
-            Ok(node)
+            add(slots, Some(Op::Return(value)))
         }
-        Stmt::Mark(mark) => {
-            let node = add(slots, Some(Op::Mark { mark: *mark, next }))?;
-            Ok(node)
-        }
-        Stmt::Block(stmts) => {
-            let node = lay(alloc, slots, stmts.as_slice(), next, out, again)?;
-            Ok(node)
-        }
+        Stmt::Mark(mark) => add(slots, Some(Op::Mark { mark: *mark, next })),
+        Stmt::Block(stmts) => lay(alloc, slots, stmts.as_slice(), next, out, again),
     }
 }
 
