@@ -1,7 +1,6 @@
 -- What a run is judged to be is determined, and a trace among it is the function's.
 use Rattle.std.proofs.lemmas.Bool.Decides.{nat_tests}
 use Rattle.std.proofs.Common.{◌≡◌, ℕ, zero, suc, ◌+◌, ◌≤◌, Bool, true, false, cond, nat_lt, List, length, Option, Some, None, ℤ, refl, sym, ap, ◌∙◌, arith}
-use Rattle.c_ast.specs.declared.trace.Event.{Event}
 use Rattle.c_ast.specs.declared.trace.Trace.{Trace}
 use Rattle.c_ast.specs.declared.interpreter.Outcome.{Outcome}
 use Rattle.c_ast.specs.declared.interpreter.Outcome.TheVariants as outcome
