@@ -32,26 +32,26 @@ IsPlaceFault (Some _) = Unit {0}
 one_place : (known : List ℕ) (occurrence : Occurrence) → IsPlaceFault (fault_of known occurrence)
 one_place known (Use scope name line) = by (holds_name scope name) refl
   where
-    by : (b : Bool) → holds_name scope name ≡ b → IsPlaceFault (fault_of known (Use scope name line))
+    by : (holds : Bool) → holds_name scope name ≡ holds → IsPlaceFault (fault_of known (Use scope name line))
     by true is = rw is tt
     by false is = rw is tt
 one_place known (Declaration block name line) = by (holds_name block name) refl
   where
-    by : (b : Bool) → holds_name block name ≡ b → IsPlaceFault (fault_of known (Declaration block name line))
+    by : (holds : Bool) → holds_name block name ≡ holds → IsPlaceFault (fault_of known (Declaration block name line))
     by true is = rw is tt
     by false is = rw is tt
 one_place known (Jump true line) = tt
 one_place known (Jump false line) = tt
 one_place known (Marked mark) = by (nat_lt mark first_automatic) refl (holds_mark known mark) refl
   where
-    by : (a : Bool) → nat_lt mark first_automatic ≡ a → (b : Bool) → holds_mark known mark ≡ b → IsPlaceFault (fault_of known (Marked mark))
+    by : (left : Bool) → nat_lt mark first_automatic ≡ left → (holds : Bool) → holds_mark known mark ≡ holds → IsPlaceFault (fault_of known (Marked mark))
     by true small true held = rw (small, held) tt
     by true small false held = rw (small, held) tt
-    by false small b held = rw small tt
+    by false small holds held = rw small tt
 
-either_place : (a b : Option CheckFault) → IsPlaceFault a → IsPlaceFault b → IsPlaceFault (option_or a b)
-either_place None b first second = second
-either_place (Some x) b first second = first
+either_place : (one two : Option CheckFault) → IsPlaceFault one → IsPlaceFault two → IsPlaceFault (option_or one two)
+either_place None two first second = second
+either_place (Some _) two first second = first
 
 first_place : (known : List ℕ) (here : List Occurrence) → IsPlaceFault (first_fault known here)
 first_place known [] = tt
@@ -59,56 +59,56 @@ first_place known (occurrence ∷ here) =
     either_place (fault_of known occurrence) (first_fault (with_mark known occurrence) here) (one_place known occurrence) (first_place (with_mark known occurrence) here)
 
 -- what a step means, at its value
-at_value : {A : Type 0} (M : A → Type 0) (known : List ℕ) (here : List Occurrence) (r : Result A CheckFault) (value : A) → r ≡ Ok value → Meets M known here r → M value
-at_value M known here r value is meets = subst (Meets M known here) is meets
+at_value : {A : Type 0} (means : A → Type 0) (known : List ℕ) (here : List Occurrence) (answer : Result A CheckFault) (value : A) → answer ≡ Ok value → Meets means known here answer → means value
+at_value means known here answer value is meets = subst (Meets means known here) is meets
 
-at_fault : {A : Type 0} (M : A → Type 0) (known : List ℕ) (here : List Occurrence) (r : Result A CheckFault) (first : CheckFault) → r ≡ Err first → Meets M known here r → first_fault known here ≡ Some first
-at_fault M known here r first is meets = ap (first_fault known) (sym (append-nil here)) ∙ (subst (Meets M known here) is meets) []
+at_fault : {A : Type 0} (means : A → Type 0) (known : List ℕ) (here : List Occurrence) (answer : Result A CheckFault) (first : CheckFault) → answer ≡ Err first → Meets means known here answer → first_fault known here ≡ Some first
+at_fault means known here answer first is meets = ap (first_fault known) (sym (append-nil here)) ∙ (subst (Meets means known here) is meets) []
 
 -- the function was made
-pub checked_by : (f : RawFunction) (vars : List Var) (stmts : Statements) (func : Function) → IsShaped f → HasParts (function_at f) vars stmts → length vars ≤ 64 → func.name ≡ f.name
-    → func.params ≡ length f.params → func.vars ≡ vars → statements_of func.body ≡ stmts → IsChecked f func
-checked_by f vars stmts func shaped parts few name params same body =
-    let makes = at_value (MakesFunction f) [] (occurrences_of f) (function_at f) (made parts.at stmts) parts.is (function_meets f shaped) in
+pub checked_by : (raw_func : RawFunction) (vars : List Var) (stmts : Statements) (func : Function) → IsShaped raw_func → HasParts (function_at raw_func) vars stmts → length vars ≤ 64 → func.name ≡ raw_func.name
+    → func.params ≡ length raw_func.params → func.vars ≡ vars → statements_of func.body ≡ stmts → IsChecked raw_func func
+checked_by raw_func vars stmts func shaped parts few name params same body =
+    let makes = at_value (MakesFunction raw_func) [] (occurrences_of raw_func) (function_at raw_func) (made parts.at stmts) parts.is (function_meets raw_func shaped) in
     record {
       faultless = makes.faultless;
-      few = subst (λ (v : List Var). length v ≤ 64) (parts.vars_are ∙ makes.vars) few;
+      few = subst (λ (some_vars : List Var). length some_vars ≤ 64) (parts.vars_are ∙ makes.vars) few;
       name = name;
       params = params;
       vars = same ∙ (parts.vars_are ∙ makes.vars);
-      body = subst (λ (s : Statements). Resolves (parameters_of f) (before_body f) f.body s) (sym body) makes.resolves;
+      body = subst (λ (stmts : Statements). Resolves (parameters_of raw_func) (before_body raw_func) raw_func.body stmts) (sym body) makes.resolves;
     }
 
 -- there are too many variables
-pub many_by : (f : RawFunction) (vars : List Var) (stmts : Statements) (n : ℕ) → IsShaped f → HasParts (function_at f) vars stmts → 64 < length vars → n ≡ length vars
-    → IsCheckFault (f ∷ []) (fault.ManyVariables n)
-many_by f vars stmts n shaped parts many count =
-    let makes = at_value (MakesFunction f) [] (occurrences_of f) (function_at f) (made parts.at stmts) parts.is (function_meets f shaped) in
-    (f, refl, makes.faultless, ap length (sym (parts.vars_are ∙ makes.vars)) ∙ sym count, omega (arith, many, count))
+pub many_by : (func : RawFunction) (vars : List Var) (stmts : Statements) (n : ℕ) → IsShaped func → HasParts (function_at func) vars stmts → 64 < length vars → n ≡ length vars
+    → IsCheckFault (func ∷ []) (fault.ManyVariables n)
+many_by func vars stmts n shaped parts many count =
+    let makes = at_value (MakesFunction func) [] (occurrences_of func) (function_at func) (made parts.at stmts) parts.is (function_meets func shaped) in
+    (func, refl, makes.faultless, ap length (sym (parts.vars_are ∙ makes.vars)) ∙ sym count, omega (arith, many, count))
 
 -- a fault was met
-pub refused_by : (f : RawFunction) (first : CheckFault) → IsShaped f → Fails (function_at f) first → IsCheckFault (f ∷ []) first
-refused_by f first shaped fails = by first refl
+pub refused_by : (func : RawFunction) (first : CheckFault) → IsShaped func → Fails (function_at func) first → IsCheckFault (func ∷ []) first
+refused_by func first shaped fails = by first refl
   where
-    found : (x : CheckFault) → first ≡ x → ¬ (x ≡ fault.Memory) → fault_in f ≡ Some x
-    found x is other = at_fault (MakesFunction f) [] (occurrences_of f) (function_at f) first (fails.by (λ e. other (sym is ∙ e))) (function_meets f shaped) ∙ ap Some is
+    found : (cause : CheckFault) → first ≡ cause → ¬ (cause ≡ fault.Memory) → fault_in func ≡ Some cause
+    found cause is other = at_fault (MakesFunction func) [] (occurrences_of func) (function_at func) first (fails.by (λ memory. other (sym is ∙ memory))) (function_meets func shaped) ∙ ap Some is
 
-    by : (x : CheckFault) → first ≡ x → IsCheckFault (f ∷ []) x
-    by fault.NoFunction is = absurd (subst IsPlaceFault (found fault.NoFunction is (λ e. cc)) (first_place [] (occurrences_of f)))
-    by (fault.ManyFunctions n) is = absurd (subst IsPlaceFault (found (fault.ManyFunctions n) is (λ e. cc)) (first_place [] (occurrences_of f)))
-    by (fault.Undeclared name line) is = (f, refl, found (fault.Undeclared name line) is (λ e. cc))
-    by (fault.Twice name line) is = (f, refl, found (fault.Twice name line) is (λ e. cc))
-    by (fault.Outside line) is = (f, refl, found (fault.Outside line) is (λ e. cc))
-    by (fault.MarkRange mark) is = (f, refl, found (fault.MarkRange mark) is (λ e. cc))
-    by (fault.MarkTwice mark) is = (f, refl, found (fault.MarkTwice mark) is (λ e. cc))
-    by (fault.ManyVariables n) is = absurd (subst IsPlaceFault (found (fault.ManyVariables n) is (λ e. cc)) (first_place [] (occurrences_of f)))
+    by : (cause : CheckFault) → first ≡ cause → IsCheckFault (func ∷ []) cause
+    by fault.NoFunction is = absurd (subst IsPlaceFault (found fault.NoFunction is (λ memory. cc)) (first_place [] (occurrences_of func)))
+    by (fault.ManyFunctions n) is = absurd (subst IsPlaceFault (found (fault.ManyFunctions n) is (λ memory. cc)) (first_place [] (occurrences_of func)))
+    by (fault.Undeclared name line) is = (func, refl, found (fault.Undeclared name line) is (λ memory. cc))
+    by (fault.Twice name line) is = (func, refl, found (fault.Twice name line) is (λ memory. cc))
+    by (fault.Outside line) is = (func, refl, found (fault.Outside line) is (λ memory. cc))
+    by (fault.MarkRange mark) is = (func, refl, found (fault.MarkRange mark) is (λ memory. cc))
+    by (fault.MarkTwice mark) is = (func, refl, found (fault.MarkTwice mark) is (λ memory. cc))
+    by (fault.ManyVariables n) is = absurd (subst IsPlaceFault (found (fault.ManyVariables n) is (λ memory. cc)) (first_place [] (occurrences_of func)))
     by fault.Memory is = tt
 
 -- the parameters are among the variables
-pub few_parameters : (f : RawFunction) (vars : List Var) (stmts : Statements) → IsShaped f → HasParts (function_at f) vars stmts → length vars ≤ 64 → length f.params ≤ 64
-few_parameters f vars stmts shaped parts few =
-    let makes = at_value (MakesFunction f) [] (occurrences_of f) (function_at f) (made parts.at stmts) parts.is (function_meets f shaped) in
-    omega (arith, few, ap length (parts.vars_are ∙ makes.vars), length-append f.params (declared_in f.body))
+pub few_parameters : (func : RawFunction) (vars : List Var) (stmts : Statements) → IsShaped func → HasParts (function_at func) vars stmts → length vars ≤ 64 → length func.params ≤ 64
+few_parameters func vars stmts shaped parts few =
+    let makes = at_value (MakesFunction func) [] (occurrences_of func) (function_at func) (made parts.at stmts) parts.is (function_meets func shaped) in
+    omega (arith, few, ap length (parts.vars_are ∙ makes.vars), length-append func.params (declared_in func.body))
 
 -- a list of one element
 pub one_of : {X : Type 0} (xs : List X) (x : X) → 1 ≤ length xs → length xs < 2 → x ≡ get_or xs 0 x → xs ≡ x ∷ []
@@ -117,7 +117,7 @@ one_of (y ∷ []) x some few is = ap (λ z. z ∷ []) (sym is)
 one_of (y ∷ z ∷ xs) x some few is = absurd (omega (arith, few))
 
 -- a fault that `?` hands on
-pub refuses : (f : RawFunction) (first : CheckFault) (result : Result Function CheckFault) (gives : CheckFault → Type 0) → IsErr result → IsErrAnd result gives → ((other : CheckFault) → gives other → other ≡ first)
-    → IsCheckFault (f ∷ []) first → MatchResult result (IsChecked f) (IsCheckFault (f ∷ []))
-refuses f first (Ok func) gives failed given same refused = absurd (false≢true failed)
-refuses f first (Err other) gives failed given same refused = subst (IsCheckFault (f ∷ [])) (sym (same other given)) refused
+pub refuses : (raw_func : RawFunction) (first : CheckFault) (result : Result Function CheckFault) (gives : CheckFault → Type 0) → IsErr result → IsErrAnd result gives → ((other : CheckFault) → gives other → other ≡ first)
+    → IsCheckFault (raw_func ∷ []) first → MatchResult result (IsChecked raw_func) (IsCheckFault (raw_func ∷ []))
+refuses raw_func first (Ok func) gives failed given same refused = absurd (false≢true failed)
+refuses raw_func first (Err other) gives failed given same refused = subst (IsCheckFault (raw_func ∷ [])) (sym (same other given)) refused

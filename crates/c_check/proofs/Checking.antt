@@ -32,19 +32,19 @@ use Rattle.c_check.proofs.Naming.{named, named-append, marks_counted}
 
 -- ---- lists without a fault
 
-or_none : (a b : Option CheckFault) → option_or a b ≡ None → (a ≡ None) × (b ≡ None)
-or_none None b is = (refl, is)
-or_none (Some first) b is = absurd (some_none is)
+or_none : (one two : Option CheckFault) → option_or one two ≡ None → (one ≡ None) × (two ≡ None)
+or_none None two is = (refl, is)
+or_none (Some first) two is = absurd (some_none is)
   where
     some_none : Some first ≡ None → ⊥
-    some_none e = cc
+    some_none same = cc
 
 jump_inside : (in_loop : Bool) (line : ℕ) (known : List ℕ) → fault_of known (Jump in_loop line) ≡ None → in_loop ≡ true
 jump_inside true line known is = refl
 jump_inside false line known is = absurd (some_none is)
   where
     some_none : Some (fault.Outside line) ≡ None → ⊥
-    some_none e = cc
+    some_none same = cc
 
 inside_of : (known : List ℕ) (here : List Occurrence) → first_fault known here ≡ None → AreInside here
 inside_of known [] is = tt
@@ -59,8 +59,8 @@ inside_of known (Marked mark ∷ here) is = (tt, inside_of (mark ∷ known) here
 mark_new : (known : List ℕ) (mark : ℕ) → fault_of known (Marked mark) ≡ None → (mark < first_automatic) × (holds_mark known mark ≡ false)
 mark_new known mark is = by (nat_lt mark first_automatic) refl (holds_mark known mark) refl
   where
-    some_none : (f : CheckFault) → Some f ≡ None → ⊥
-    some_none f e = cc
+    some_none : (cause : CheckFault) → Some cause ≡ None → ⊥
+    some_none cause same = cc
 
     by : (small : Bool) → nat_lt mark first_automatic ≡ small → (held : Bool) → holds_mark known mark ≡ held → (mark < first_automatic) × (holds_mark known mark ≡ false)
     by true small false held = (ltb-true mark first_automatic small, held)
@@ -70,7 +70,7 @@ mark_new known mark is = by (nat_lt mark first_automatic) refl (holds_mark known
 named_few : (m : ℕ) (known : List ℕ) (here : List Occurrence) → first_fault known here ≡ None → named m here + one_if (holds_mark known m) ≤ 1
 named_few m known [] is = by (holds_mark known m)
   where
-    by : (b : Bool) → 0 + one_if b ≤ 1
+    by : (holds : Bool) → 0 + one_if holds ≤ 1
     by true = omega arith
     by false = omega arith
 named_few m known (Use scope name line ∷ here) is = named_few m known here (or_none (fault_of known (Use scope name line)) (first_fault known here) is).1
@@ -81,7 +81,7 @@ named_few m known (Marked mark ∷ here) is = by (mark == m) refl (named_few m (
     both : (fault_of known (Marked mark) ≡ None) × (first_fault (mark ∷ known) here ≡ None)
     both = or_none (fault_of known (Marked mark)) (first_fault (mark ∷ known) here) is
 
-    by : (b : Bool) → (mark == m) ≡ b → named m here + one_if (mark == m || holds_mark known m) ≤ 1 → (one_if (mark == m) + named m here) + one_if (holds_mark known m) ≤ 1
+    by : (holds : Bool) → (mark == m) ≡ holds → named m here + one_if (mark == m || holds_mark known m) ≤ 1 → (one_if (mark == m) + named m here) + one_if (holds_mark known m) ≤ 1
     by true same few =
         let new : holds_mark known m ≡ false = ap (holds_mark known) (number_is mark m same) ∙ (mark_new known mark both.0).1 in
         let few_here : named m here + one_if true ≤ 1 = rw same at few in
@@ -114,37 +114,37 @@ known_nothing : Known [] 0 []
 known_nothing = record { is_known = λ name number found. absurd (nothing number found); below = λ name number found. absurd (nothing number found); new = λ x above. refl }
   where
     nothing : (number : ℕ) → None ≡ Some number → ⊥
-    nothing number e = cc
+    nothing number same = cc
 
 -- ---- functions
 
 -- the function of a file without a fault is well formed
-pub is_function : (f : RawFunction) (made : Function) → IsChecked f made → IsShaped f → IsFunction made
-is_function f made is shaped =
-    let names = with_names (map plain f.params) [] in
-    let front = in_declarators [] [] (map plain f.params) in
-    let here = occurrences names names false f.body in
-    let known : Known (parameters_of f) (length f.params) (first_variables (length f.params)) =
-    subst (λ (n : ℕ). Known (parameters_of f) n (first_variables n)) (omega arith) (known_parameters f.params 0 [] known_nothing) in
+pub is_function : (func : RawFunction) (made : Function) → IsChecked func made → IsShaped func → IsFunction made
+is_function func made is shaped =
+    let names = with_names (map plain func.params) [] in
+    let front = in_declarators [] [] (map plain func.params) in
+    let here = occurrences names names false func.body in
+    let known : Known (parameters_of func) (length func.params) (first_variables (length func.params)) =
+    subst (λ (n : ℕ). Known (parameters_of func) n (first_variables n)) (omega arith) (known_parameters func.params 0 [] known_nothing) in
     let inside = inside_behind front here (inside_of [] (front ++ here) is.faultless) in
-    let all = length-append f.params (declared_in f.body) in
-    let vars : length made.vars ≡ length (variables_of f) = ap length is.vars in
+    let all = length-append func.params (declared_in func.body) in
+    let vars : length made.vars ≡ length (variables_of func) = ap length is.vars in
     record {
       few = omega (arith, vars, is.few);
       parameters = omega (arith, vars, all, is.params);
       formed = subst (λ (p : ℕ). AreFormed (length made.vars) (first_variables p) false (statements_of made.body)) (sym is.params)
-          (formed (length made.vars) names names false (parameters_of f) (before_body f) f.body (statements_of made.body) (first_variables (length f.params)) is.body shaped inside (omega (arith, vars, all)) known);
+          (formed (length made.vars) names names false (parameters_of func) (before_body func) func.body (statements_of made.body) (first_variables (length func.params)) is.body shaped inside (omega (arith, vars, all)) known);
       declared_once = λ x. subst (λ (p : ℕ). declarations x (first_variables p) (statements_of made.body) ≤ 1) (sym is.params)
-          (declared_once x (parameters_of f) (before_body f) f.body (statements_of made.body) (first_variables (length f.params)) is.body shaped known).few;
+          (declared_once x (parameters_of func) (before_body func) func.body (statements_of made.body) (first_variables (length func.params)) is.body shaped known).few;
       marked_once = λ m. marked m;
     }
   where
     marked : (m : ℕ) → marks m (statements_of made.body) ≤ 1
     marked m =
-        let names = with_names (map plain f.params) [] in
-        let front = in_declarators [] [] (map plain f.params) in
-        let here = occurrences names names false f.body in
-        let counted = marks_counted m names names false (parameters_of f) (before_body f) f.body (statements_of made.body) is.body in
+        let names = with_names (map plain func.params) [] in
+        let front = in_declarators [] [] (map plain func.params) in
+        let here = occurrences names names false func.body in
+        let counted = marks_counted m names names false (parameters_of func) (before_body func) func.body (statements_of made.body) is.body in
         elim (split_at m first_automatic) [
           | inl low ↦ omega (arith, counted.is, counted.once.below (omega (arith, low)), named_few m [] (front ++ here) is.faultless, named-append m front here)
           | inr high ↦ omega (arith, counted.is, counted.once.few, named_none m [] (front ++ here) high is.faultless, named-append m front here)
@@ -152,83 +152,83 @@ is_function f made is shaped =
 
 -- ---- one function
 
-same_expression : (scope : Bindings) (e : RawExpression) (a b : Expression) → ResolvesExpression scope e a → ResolvesExpression scope e b → a ≡ b
+same_expression : (scope : Bindings) (expr : RawExpression) (one two : Expression) → ResolvesExpression scope expr one → ResolvesExpression scope expr two → one ≡ two
 same_expression scope _ _ _ (constant z) (constant _) = refl
-same_expression scope _ _ _ (variable name line x is) (variable _ _ y other) = ap tree.Var (some_same (sym is ∙ other))
+same_expression scope _ _ _ (variable name line number is) (variable _ _ other_number other) = ap tree.Var (some_same (sym is ∙ other))
   where
     some_same : {m n : ℕ} → Some m ≡ Some n → m ≡ n
-    some_same e = cc
-same_expression scope _ _ _ (unary op e a r) (unary _ _ b s) = ap (tree.Un op) (same_expression scope e a b r s)
-same_expression scope _ _ _ (binary op line e f a c r s) (binary _ _ _ _ b d t u) =
-    ap (λ (x : Expression). tree.Bin op x c) (same_expression scope e a b r t) ∙ ap (tree.Bin op b) (same_expression scope f c d s u)
-same_expression scope _ _ _ (conditional g e f a c x r s t) (conditional _ _ _ b d y u v w) =
-    ap (λ (z : Expression). tree.Cond z c x) (same_expression scope g a b r u) ∙ ap (λ (z : Expression). tree.Cond b z x) (same_expression scope e c d s v)
-    ∙ ap (tree.Cond b d) (same_expression scope f x y t w)
+    some_same same = cc
+same_expression scope _ _ _ (unary op expr made made_is) (unary _ _ other_made other_made_is) = ap (tree.Un op) (same_expression scope expr made other_made made_is other_made_is)
+same_expression scope _ _ _ (binary op line left right first second first_is second_is) (binary _ _ _ _ other_first other_second other_first_is other_second_is) =
+    ap (λ (value : Expression). tree.Bin op value second) (same_expression scope left first other_first first_is other_first_is) ∙ ap (tree.Bin op other_first) (same_expression scope right second other_second second_is other_second_is)
+same_expression scope _ _ _ (conditional test left right cond first second cond_is first_is second_is) (conditional _ _ _ other_cond other_first other_second other_cond_is other_first_is other_second_is) =
+    ap (λ (value : Expression). tree.Cond value first second) (same_expression scope test cond other_cond cond_is other_cond_is) ∙ ap (λ (value : Expression). tree.Cond other_cond value second) (same_expression scope left first other_first first_is other_first_is)
+    ∙ ap (tree.Cond other_cond other_first) (same_expression scope right second other_second second_is other_second_is)
 
-same_condition : (scope : Bindings) (c : Option RawCondition) (a b : Expression) → ResolvesCondition scope c a → ResolvesCondition scope c b → a ≡ b
+same_condition : (scope : Bindings) (test : Option RawCondition) (one two : Expression) → ResolvesCondition scope test one → ResolvesCondition scope test two → one ≡ two
 same_condition scope _ _ _ left_out left_out = refl
-same_condition scope _ _ _ (stands c a r) (stands _ b s) = same_expression scope c.cond a b r s
+same_condition scope _ _ _ (stands test made made_is) (stands _ other_made other_made_is) = same_expression scope test.cond made other_made made_is other_made_is
 
 number_same : {m n : ℕ} → Some m ≡ Some n → m ≡ n
-number_same e = cc
+number_same same = cc
 
-pub same_statements : (scope : Bindings) (n : Counts) (stmts : RawStatements) (a b : Statements) → Resolves scope n stmts a → Resolves scope n stmts b → a ≡ b
-same_statements _ _ _ _ _ (none scope n) (none _ _) = refl
-same_statements _ _ _ _ _ (declared scope n others a r) (declared _ _ _ b s) = same_statements scope n others a b r s
-same_statements _ _ _ _ _ (declares scope n var ds others a r) (declares _ _ _ _ _ b s) =
-    ap (tree.Set n.vars (tree.Num (pos 0))) (same_statements (binding var n.vars ∷ scope) (one_variable_more n) (raw.Declare ds others) a b r s)
-same_statements _ _ _ _ _ (initialises scope n var e ds others v a x r) (initialises _ _ _ _ _ _ w b y s) =
-    ap (λ (z : Expression). tree.Set n.vars (tree.Num (pos 0)) (tree.Set n.vars z a)) (same_expression (binding var n.vars ∷ scope) e v w x y)
-    ∙ ap (λ (z : Statements). tree.Set n.vars (tree.Num (pos 0)) (tree.Set n.vars w z)) (same_statements (binding var n.vars ∷ scope) (one_variable_more n) (raw.Declare ds others) a b r s)
-same_statements _ _ _ _ _ (assigns scope n name line i e others v a found x r) (assigns _ _ _ _ j _ _ w b other y s) =
-    ap (λ (z : ℕ). tree.Set z v a) (number_same (sym found ∙ other)) ∙ ap (λ (z : Expression). tree.Set j z a) (same_expression scope e v w x y) ∙ ap (tree.Set j w) (same_statements scope n others a b r s)
-same_statements _ _ _ _ _ (branches scope n c e others v p a x r t) (branches _ _ _ _ _ w q b y s u) =
-    ap (λ (z : Expression). tree.If z p tree.Nil a) (same_expression scope c v w x y) ∙ ap (λ (z : Statements). tree.If w z tree.Nil a) (same_statements scope n e p q r s)
-    ∙ ap (tree.If w q tree.Nil) (same_statements scope (behind e n) others a b t u)
-same_statements _ _ _ _ _ (chooses scope n c e f others v p k a x r t g) (chooses _ _ _ _ _ _ w q l b y s u h) =
-    ap (λ (z : Expression). tree.If z p k a) (same_expression scope c v w x y) ∙ ap (λ (z : Statements). tree.If w z k a) (same_statements scope n e p q r s)
-    ∙ ap (λ (z : Statements). tree.If w q z a) (same_statements scope (behind e n) f k l t u) ∙ ap (tree.If w q l) (same_statements scope (behind f (behind e n)) others a b g h)
-same_statements _ _ _ _ _ (while_loop scope n c e others v p a x r t) (while_loop _ _ _ _ _ w q b y s u) =
-    ap (λ (z : Expression). tree.Loop (loop_mark c.mark e n.loops) z p tree.Nil true a) (same_expression scope c.cond v w x y)
-    ∙ ap (λ (z : Statements). tree.Loop (loop_mark c.mark e n.loops) w z tree.Nil true a) (same_statements scope (one_loop_more n) e p q r s)
-    ∙ ap (tree.Loop (loop_mark c.mark e n.loops) w q tree.Nil true) (same_statements scope (behind e (one_loop_more n)) others a b t u)
-same_statements _ _ _ _ _ (do_loop scope n e c others v p a r x t) (do_loop _ _ _ _ _ w q b s y u) =
-    ap (λ (z : Expression). tree.Loop (loop_mark c.mark e n.loops) z p tree.Nil false a) (same_expression scope c.cond v w x y)
-    ∙ ap (λ (z : Statements). tree.Loop (loop_mark c.mark e n.loops) w z tree.Nil false a) (same_statements scope (one_loop_more n) e p q r s)
-    ∙ ap (tree.Loop (loop_mark c.mark e n.loops) w q tree.Nil false) (same_statements scope (behind e (one_loop_more n)) others a b t u)
-same_statements _ _ _ _ _ (for_loop scope n start c step e others v f g p a r x t i k) (for_loop _ _ _ _ _ _ _ w f' g' q b s y u j l) =
-    let inner = scope_in_for start n.vars scope in
-    let begun = one_loop_more n in
-    let mark = loop_mark (named_mark c) e n.loops in
-    ap (λ (z : Statements). tree.Block (followed_by z (tree.Loop mark v p g true tree.Nil)) a) (same_statements scope begun start f f' r s)
-    ∙ ap (λ (z : Expression). tree.Block (followed_by f' (tree.Loop mark z p g true tree.Nil)) a) (same_condition inner c v w x y)
-    ∙ ap (λ (z : Statements). tree.Block (followed_by f' (tree.Loop mark w p z true tree.Nil)) a) (same_statements inner (behind start begun) step g g' t u)
-    ∙ ap (λ (z : Statements). tree.Block (followed_by f' (tree.Loop mark w z g' true tree.Nil)) a) (same_statements inner (behind step (behind start begun)) e p q i j)
-    ∙ ap (tree.Block (followed_by f' (tree.Loop mark w q g' true tree.Nil))) (same_statements scope (behind e (behind step (behind start begun))) others a b k l)
-same_statements _ _ _ _ _ (breaks scope n line others a r) (breaks _ _ _ _ b s) = ap tree.Break (same_statements scope n others a b r s)
-same_statements _ _ _ _ _ (continues scope n line others a r) (continues _ _ _ _ b s) = ap tree.Continue (same_statements scope n others a b r s)
-same_statements _ _ _ _ _ (returns scope n e others v a x r) (returns _ _ _ _ w b y s) =
-    ap (λ (z : Expression). tree.Return z a) (same_expression scope e v w x y) ∙ ap (tree.Return w) (same_statements scope n others a b r s)
-same_statements _ _ _ _ _ (resolves.marks scope n mark others a r) (resolves.marks _ _ _ _ b s) = ap (tree.Mark mark) (same_statements scope n others a b r s)
-same_statements _ _ _ _ _ (block scope n e others p a r t) (block _ _ _ _ q b s u) =
-    ap (λ (z : Statements). tree.Block z a) (same_statements scope n e p q r s) ∙ ap (tree.Block q) (same_statements scope (behind e n) others a b t u)
-same_statements _ _ _ _ _ (empty scope n others a r) (empty _ _ _ b s) = same_statements scope n others a b r s
+pub same_statements : (scope : Bindings) (before : Counts) (stmts : RawStatements) (one two : Statements) → Resolves scope before stmts one → Resolves scope before stmts two → one ≡ two
+same_statements _ _ _ _ _ (none scope before) (none _ _) = refl
+same_statements _ _ _ _ _ (declared scope before others made made_is) (declared _ _ _ other_made other_made_is) = same_statements scope before others made other_made made_is other_made_is
+same_statements _ _ _ _ _ (declares scope before var declarators others made made_is) (declares _ _ _ _ _ other_made other_made_is) =
+    ap (tree.Set before.vars (tree.Num (pos 0))) (same_statements (binding var before.vars ∷ scope) (one_variable_more before) (raw.Declare declarators others) made other_made made_is other_made_is)
+same_statements _ _ _ _ _ (initialises scope before var expr declarators others value made value_is made_is) (initialises _ _ _ _ _ _ other_value other_made other_value_is other_made_is) =
+    ap (λ (part : Expression). tree.Set before.vars (tree.Num (pos 0)) (tree.Set before.vars part made)) (same_expression (binding var before.vars ∷ scope) expr value other_value value_is other_value_is)
+    ∙ ap (λ (part : Statements). tree.Set before.vars (tree.Num (pos 0)) (tree.Set before.vars other_value part)) (same_statements (binding var before.vars ∷ scope) (one_variable_more before) (raw.Declare declarators others) made other_made made_is other_made_is)
+same_statements _ _ _ _ _ (assigns scope before name line number expr others value made found value_is made_is) (assigns _ _ _ _ other_number _ _ other_value other_made other other_value_is other_made_is) =
+    ap (λ (part : ℕ). tree.Set part value made) (number_same (sym found ∙ other)) ∙ ap (λ (part : Expression). tree.Set other_number part made) (same_expression scope expr value other_value value_is other_value_is) ∙ ap (tree.Set other_number other_value) (same_statements scope before others made other_made made_is other_made_is)
+same_statements _ _ _ _ _ (branches scope before test branch others cond first made cond_is first_is made_is) (branches _ _ _ _ _ other_cond other_first other_made other_cond_is other_first_is other_made_is) =
+    ap (λ (part : Expression). tree.If part first tree.Nil made) (same_expression scope test cond other_cond cond_is other_cond_is) ∙ ap (λ (part : Statements). tree.If other_cond part tree.Nil made) (same_statements scope before branch first other_first first_is other_first_is)
+    ∙ ap (tree.If other_cond other_first tree.Nil) (same_statements scope (behind branch before) others made other_made made_is other_made_is)
+same_statements _ _ _ _ _ (chooses scope before test branch alternative others cond first second made cond_is first_is second_is made_is) (chooses _ _ _ _ _ _ other_cond other_first other_second other_made other_cond_is other_first_is other_second_is other_made_is) =
+    ap (λ (part : Expression). tree.If part first second made) (same_expression scope test cond other_cond cond_is other_cond_is) ∙ ap (λ (part : Statements). tree.If other_cond part second made) (same_statements scope before branch first other_first first_is other_first_is)
+    ∙ ap (λ (part : Statements). tree.If other_cond other_first part made) (same_statements scope (behind branch before) alternative second other_second second_is other_second_is) ∙ ap (tree.If other_cond other_first other_second) (same_statements scope (behind alternative (behind branch before)) others made other_made made_is other_made_is)
+same_statements _ _ _ _ _ (while_loop scope before test turn others cond body made cond_is body_is made_is) (while_loop _ _ _ _ _ other_cond other_body other_made other_cond_is other_body_is other_made_is) =
+    ap (λ (part : Expression). tree.Loop (loop_mark test.mark turn before.loops) part body tree.Nil true made) (same_expression scope test.cond cond other_cond cond_is other_cond_is)
+    ∙ ap (λ (part : Statements). tree.Loop (loop_mark test.mark turn before.loops) other_cond part tree.Nil true made) (same_statements scope (one_loop_more before) turn body other_body body_is other_body_is)
+    ∙ ap (tree.Loop (loop_mark test.mark turn before.loops) other_cond other_body tree.Nil true) (same_statements scope (behind turn (one_loop_more before)) others made other_made made_is other_made_is)
+same_statements _ _ _ _ _ (do_loop scope before turn test others cond body made body_is cond_is made_is) (do_loop _ _ _ _ _ other_cond other_body other_made other_body_is other_cond_is other_made_is) =
+    ap (λ (part : Expression). tree.Loop (loop_mark test.mark turn before.loops) part body tree.Nil false made) (same_expression scope test.cond cond other_cond cond_is other_cond_is)
+    ∙ ap (λ (part : Statements). tree.Loop (loop_mark test.mark turn before.loops) other_cond part tree.Nil false made) (same_statements scope (one_loop_more before) turn body other_body body_is other_body_is)
+    ∙ ap (tree.Loop (loop_mark test.mark turn before.loops) other_cond other_body tree.Nil false) (same_statements scope (behind turn (one_loop_more before)) others made other_made made_is other_made_is)
+same_statements _ _ _ _ _ (for_loop scope before start test step turn others cond first next body made first_is cond_is next_is body_is made_is) (for_loop _ _ _ _ _ _ _ other_cond other_first other_next other_body other_made other_first_is other_cond_is other_next_is other_body_is other_made_is) =
+    let inner = scope_in_for start before.vars scope in
+    let begun = one_loop_more before in
+    let mark = loop_mark (named_mark test) turn before.loops in
+    ap (λ (part : Statements). tree.Block (followed_by part (tree.Loop mark cond body next true tree.Nil)) made) (same_statements scope begun start first other_first first_is other_first_is)
+    ∙ ap (λ (part : Expression). tree.Block (followed_by other_first (tree.Loop mark part body next true tree.Nil)) made) (same_condition inner test cond other_cond cond_is other_cond_is)
+    ∙ ap (λ (part : Statements). tree.Block (followed_by other_first (tree.Loop mark other_cond body part true tree.Nil)) made) (same_statements inner (behind start begun) step next other_next next_is other_next_is)
+    ∙ ap (λ (part : Statements). tree.Block (followed_by other_first (tree.Loop mark other_cond part other_next true tree.Nil)) made) (same_statements inner (behind step (behind start begun)) turn body other_body body_is other_body_is)
+    ∙ ap (tree.Block (followed_by other_first (tree.Loop mark other_cond other_body other_next true tree.Nil))) (same_statements scope (behind turn (behind step (behind start begun))) others made other_made made_is other_made_is)
+same_statements _ _ _ _ _ (breaks scope before line others made made_is) (breaks _ _ _ _ other_made other_made_is) = ap tree.Break (same_statements scope before others made other_made made_is other_made_is)
+same_statements _ _ _ _ _ (continues scope before line others made made_is) (continues _ _ _ _ other_made other_made_is) = ap tree.Continue (same_statements scope before others made other_made made_is other_made_is)
+same_statements _ _ _ _ _ (returns scope before expr others value made value_is made_is) (returns _ _ _ _ other_value other_made other_value_is other_made_is) =
+    ap (λ (part : Expression). tree.Return part made) (same_expression scope expr value other_value value_is other_value_is) ∙ ap (tree.Return other_value) (same_statements scope before others made other_made made_is other_made_is)
+same_statements _ _ _ _ _ (resolves.marks scope before mark others made made_is) (resolves.marks _ _ _ _ other_made other_made_is) = ap (tree.Mark mark) (same_statements scope before others made other_made made_is other_made_is)
+same_statements _ _ _ _ _ (block scope before items others inner made inner_is made_is) (block _ _ _ _ other_inner other_made other_inner_is other_made_is) =
+    ap (λ (part : Statements). tree.Block part made) (same_statements scope before items inner other_inner inner_is other_inner_is) ∙ ap (tree.Block other_inner) (same_statements scope (behind items before) others made other_made made_is other_made_is)
+same_statements _ _ _ _ _ (empty scope before others made made_is) (empty _ _ _ other_made other_made_is) = same_statements scope before others made other_made made_is other_made_is
 
 pub same_function : IsSameFunction
-same_function unit a b first second =
+same_function unit one two first second =
     let file : first.0 ≡ second.0 = one_function (sym first.1 ∙ second.1) in
     let is = first.2 in
-    let other = subst (λ (f : RawFunction). IsChecked f b) (sym file) second.2 in
+    let other = subst (λ (func : RawFunction). IsChecked func two) (sym file) second.2 in
     let vars = is.vars ∙ sym other.vars in
     let params = is.params ∙ sym other.params in
-    let body = one_tree a.body b.body
-    (same_statements (parameters_of first.0) (before_body first.0) first.0.body (statements_of a.body) (statements_of b.body) is.body other.body) in
-    ap (λ (name : List ℕ). function name a.params a.vars a.body) (is.name ∙ sym other.name)
-    ∙ ap (λ (count : ℕ). function b.name count a.vars a.body) params ∙ ap (λ (list : List Var). function b.name b.params list a.body) vars
-    ∙ ap (function b.name b.params b.vars) body
+    let body = one_tree one.body two.body
+    (same_statements (parameters_of first.0) (before_body first.0) first.0.body (statements_of one.body) (statements_of two.body) is.body other.body) in
+    ap (λ (name : List ℕ). function name one.params one.vars one.body) (is.name ∙ sym other.name)
+    ∙ ap (λ (count : ℕ). function two.name count one.vars one.body) params ∙ ap (λ (list : List Var). function two.name two.params list one.body) vars
+    ∙ ap (function two.name two.params two.vars) body
   where
-    one_function : {f g : RawFunction} → (f ∷ []) ≡ (g ∷ []) → f ≡ g
-    one_function e = cc
+    one_function : {func other : RawFunction} → (func ∷ []) ≡ (other ∷ []) → func ≡ other
+    one_function same = cc
 
 -- ---- the answer of a call
 
@@ -241,20 +241,20 @@ pub record IsBehind (params : List Var) (at behind_ : Resolver) : Type 0 where
   pub vars : behind_.vars ≡ at.vars ++ params
   pub loops : behind_.loops ≡ at.loops
 
-pub parameters_meet : (params : List Var) (at : Resolver) → Meets (λ (b : Resolver). IsBehind params at b) at.marks (in_declarators (names_of (scope_at at)) (block_names at.table) (map plain params)) (parameters_at at params)
+pub parameters_meet : (params : List Var) (at : Resolver) → Meets (λ (place : Resolver). IsBehind params at place) at.marks (in_declarators (names_of (scope_at at)) (block_names at.table) (map plain params)) (parameters_at at params)
 parameters_meet [] at = record { passes = passes_nothing at.marks; scope = refl; block = refl; outer = refl; vars = sym (append-nil at.vars); loops = refl }
 parameters_meet (param ∷ params) at =
     let here = Declaration (block_names at.table) param.name param.line ∷ [] in
     let next = with_variable at param in
     let rest = in_declarators (names_of (scope_at next)) (block_names next.table) (map plain params) in
-    meets_then (λ (b : Resolver). (b ≡ next) × Passes at.marks here at.marks) (IsBehind (param ∷ params) at) at.marks here rest (declared_at at param) (λ (b : Resolver). parameters_at b params)
+    meets_then (λ (place : Resolver). (place ≡ next) × Passes at.marks here at.marks) (IsBehind (param ∷ params) at) at.marks here rest (declared_at at param) (λ (place : Resolver). parameters_at place params)
     (declared_meets at param)
-    (λ b facts. subst (λ (x : Resolver). Meets (IsBehind (param ∷ params) at) at.marks (here ++ rest) (parameters_at x params)) (sym facts.0)
+    (λ place facts. subst (λ (place : Resolver). Meets (IsBehind (param ∷ params) at) at.marks (here ++ rest) (parameters_at place params)) (sym facts.0)
     (meets_behind (IsBehind (param ∷ params) at) at.marks at.marks here rest (parameters_at next params) facts.1 (more (parameters_at next params) facts.1 (parameters_meet params next))))
   where
-    more : (r : Result Resolver CheckFault) → Passes at.marks (Declaration (block_names at.table) param.name param.line ∷ []) at.marks
-        → Meets (IsBehind params (with_variable at param)) at.marks (in_declarators (names_of (scope_at (with_variable at param))) (block_names (with_variable at param).table) (map plain params)) r
-        → Meets (IsBehind (param ∷ params) at) at.marks (in_declarators (names_of (scope_at (with_variable at param))) (block_names (with_variable at param).table) (map plain params)) r
+    more : (answer : Result Resolver CheckFault) → Passes at.marks (Declaration (block_names at.table) param.name param.line ∷ []) at.marks
+        → Meets (IsBehind params (with_variable at param)) at.marks (in_declarators (names_of (scope_at (with_variable at param))) (block_names (with_variable at param).table) (map plain params)) answer
+        → Meets (IsBehind (param ∷ params) at) at.marks (in_declarators (names_of (scope_at (with_variable at param))) (block_names (with_variable at param).table) (map plain params)) answer
     more (Ok found) passes is = record {
       passes = passes_then at.marks at.marks found.marks (Declaration (block_names at.table) param.name param.line ∷ [])
           (in_declarators (names_of (scope_at (with_variable at param))) (block_names (with_variable at param).table) (map plain params)) passes is.passes;
@@ -271,41 +271,41 @@ names_declared_plain [] number scope = refl
 names_declared_plain (param ∷ params) number scope = names_declared_plain params (suc number) (binding param number ∷ scope)
 
 -- what a function of a file stands for
-pub record MakesFunction (f : RawFunction) (found : Made) : Type 0 where
-  pub resolves : Resolves (parameters_of f) (before_body f) f.body found.stmts
-  pub faultless : fault_in f ≡ None
-  pub vars : found.at.vars ≡ variables_of f
+pub record MakesFunction (func : RawFunction) (found : Made) : Type 0 where
+  pub resolves : Resolves (parameters_of func) (before_body func) func.body found.stmts
+  pub faultless : fault_in func ≡ None
+  pub vars : found.at.vars ≡ variables_of func
 
-counts_at_start : (f : RawFunction) (b : Resolver) → IsBehind f.params nothing_known b → counts_at b ≡ before_body f
-counts_at_start f b behind_ = counts_as b (before_body f) (ap length behind_.vars) behind_.loops
+counts_at_start : (func : RawFunction) (place : Resolver) → IsBehind func.params nothing_known place → counts_at place ≡ before_body func
+counts_at_start func place behind_ = counts_as place (before_body func) (ap length behind_.vars) behind_.loops
 
-pub function_meets : (f : RawFunction) → IsShaped f → Meets (MakesFunction f) [] (occurrences_of f) (function_at f)
-function_meets f shaped =
-    let front = in_declarators [] [] (map plain f.params) in
-    let names = with_names (map plain f.params) [] in
-    let rest = occurrences names names false f.body in
-    meets_then (IsBehind f.params nothing_known) (MakesFunction f) [] front rest (parameters_at nothing_known f.params) (λ (b : Resolver). statements_at b false f.body) (parameters_meet f.params nothing_known)
-    (λ b behind_. meets_behind (MakesFunction f) [] b.marks front rest (statements_at b false f.body) behind_.passes
-    (body b behind_ (statements_at b false f.body)
-    (subst (λ (n : Names). Meets (Makes b.table b false f.body) b.marks (occurrences n (block_names b.table) false f.body) (statements_at b false f.body)) (ap names_of behind_.scope ∙ names_declared_plain f.params 0 [])
-    (statements_meet b false f.body shaped))))
+pub function_meets : (func : RawFunction) → IsShaped func → Meets (MakesFunction func) [] (occurrences_of func) (function_at func)
+function_meets func shaped =
+    let front = in_declarators [] [] (map plain func.params) in
+    let names = with_names (map plain func.params) [] in
+    let rest = occurrences names names false func.body in
+    meets_then (IsBehind func.params nothing_known) (MakesFunction func) [] front rest (parameters_at nothing_known func.params) (λ (place : Resolver). statements_at place false func.body) (parameters_meet func.params nothing_known)
+    (λ place behind_. meets_behind (MakesFunction func) [] place.marks front rest (statements_at place false func.body) behind_.passes
+    (body place behind_ (statements_at place false func.body)
+    (subst (λ (some_names : Names). Meets (Makes place.table place false func.body) place.marks (occurrences some_names (block_names place.table) false func.body) (statements_at place false func.body)) (ap names_of behind_.scope ∙ names_declared_plain func.params 0 [])
+    (statements_meet place false func.body shaped))))
   where
-    body : (b : Resolver) → IsBehind f.params nothing_known b → (r : Result Made CheckFault)
-        → Meets (Makes b.table b false f.body) b.marks (occurrences (with_names (map plain f.params) []) (block_names b.table) false f.body) r
-        → Meets (MakesFunction f) b.marks (occurrences (with_names (map plain f.params) []) (with_names (map plain f.params) []) false f.body) r
-    body b behind_ (Ok found) makes =
-        let front = in_declarators [] [] (map plain f.params) in
-        let names = with_names (map plain f.params) [] in
-        let here = occurrences names names false f.body in
-        let same_names : names_of (scope_at b) ≡ names = ap names_of behind_.scope ∙ names_declared_plain f.params 0 [] in
-        let passes : Passes b.marks here found.at.marks =
-        subst (λ (n : Names). Passes b.marks (occurrences names n false f.body) found.at.marks) behind_.block
-        (subst (λ (n : Names). Passes b.marks (occurrences n (block_names b.table) false f.body) found.at.marks) same_names makes.passes) in
-        let whole = passes_then [] b.marks found.at.marks front here behind_.passes passes in
+    body : (place : Resolver) → IsBehind func.params nothing_known place → (answer : Result Made CheckFault)
+        → Meets (Makes place.table place false func.body) place.marks (occurrences (with_names (map plain func.params) []) (block_names place.table) false func.body) answer
+        → Meets (MakesFunction func) place.marks (occurrences (with_names (map plain func.params) []) (with_names (map plain func.params) []) false func.body) answer
+    body place behind_ (Ok found) makes =
+        let front = in_declarators [] [] (map plain func.params) in
+        let names = with_names (map plain func.params) [] in
+        let here = occurrences names names false func.body in
+        let same_names : names_of (scope_at place) ≡ names = ap names_of behind_.scope ∙ names_declared_plain func.params 0 [] in
+        let passes : Passes place.marks here found.at.marks =
+        subst (λ (some_names : Names). Passes place.marks (occurrences names some_names false func.body) found.at.marks) behind_.block
+        (subst (λ (some_names : Names). Passes place.marks (occurrences some_names (block_names place.table) false func.body) found.at.marks) same_names makes.passes) in
+        let whole = passes_then [] place.marks found.at.marks front here behind_.passes passes in
         record {
-          resolves = subst (λ (s : Bindings). Resolves s (before_body f) f.body found.stmts) behind_.scope
-              (subst (λ (n : Counts). Resolves (scope_at b) n f.body found.stmts) (counts_at_start f b behind_) makes.resolves);
+          resolves = subst (λ (bindings : Bindings). Resolves bindings (before_body func) func.body found.stmts) behind_.scope
+              (subst (λ (before : Counts). Resolves (scope_at place) before func.body found.stmts) (counts_at_start func place behind_) makes.resolves);
           faultless = ap (first_fault []) (sym (append-nil (front ++ here))) ∙ whole.by [];
-          vars = makes.grows.vars ∙ ap (λ (v : List Var). v ++ declared_in f.body) behind_.vars;
+          vars = makes.grows.vars ∙ ap (λ (some_vars : List Var). some_vars ++ declared_in func.body) behind_.vars;
         }
-    body b behind_ (Err first) fails = subst (λ (n : Names). (later : List Occurrence) → first_fault b.marks (occurrences (with_names (map plain f.params) []) n false f.body ++ later) ≡ Some first) behind_.block fails
+    body place behind_ (Err first) fails = subst (λ (some_names : Names). (later : List Occurrence) → first_fault place.marks (occurrences (with_names (map plain func.params) []) some_names false func.body ++ later) ≡ Some first) behind_.block fails

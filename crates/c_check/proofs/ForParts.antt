@@ -8,16 +8,16 @@ use Rattle.c_ast.specs.RawShape.{IsForStart, IsForStep}
 pub data ForStart : RawStatements → Type 0 where
   no_start : ForStart raw.Nil
   declares_start : (declarators : List RawDeclared) → ForStart (raw.Declare declarators raw.Nil)
-  assigns_start : (name : List ℕ) (line : ℕ) (e : RawExpression) → ForStart (raw.Assign name line e raw.Nil)
+  assigns_start : (name : List ℕ) (line : ℕ) (expr : RawExpression) → ForStart (raw.Assign name line expr raw.Nil)
 
 -- The third part is left out or an assignment.
 pub data ForStep : RawStatements → Type 0 where
   no_step : ForStep raw.Nil
-  assigns_step : (name : List ℕ) (line : ℕ) (e : RawExpression) → ForStep (raw.Assign name line e raw.Nil)
+  assigns_step : (name : List ℕ) (line : ℕ) (expr : RawExpression) → ForStep (raw.Assign name line expr raw.Nil)
 
 pub for_step : (step : RawStatements) → IsForStep step → ForStep step
 for_step raw.Nil shaped = no_step
-for_step (raw.Assign name line e raw.Nil) shaped = assigns_step name line e
+for_step (raw.Assign name line expr raw.Nil) shaped = assigns_step name line expr
 for_step (raw.Declare _ _) shaped = absurd shaped
 for_step (raw.Assign _ _ _ (raw.Declare _ _)) shaped = absurd shaped
 for_step (raw.Assign _ _ _ (raw.Assign _ _ _ _)) shaped = absurd shaped
@@ -47,7 +47,7 @@ for_step (raw.Empty _) shaped = absurd shaped
 pub for_start : (start : RawStatements) → IsForStart start → ForStart start
 for_start raw.Nil shaped = no_start
 for_start (raw.Declare declarators raw.Nil) shaped = declares_start declarators
-for_start (raw.Assign name line e raw.Nil) shaped = assigns_start name line e
+for_start (raw.Assign name line expr raw.Nil) shaped = assigns_start name line expr
 for_start (raw.Declare _ (raw.Declare _ _)) shaped = absurd shaped
 for_start (raw.Declare _ (raw.Assign _ _ _ _)) shaped = absurd shaped
 for_start (raw.Declare _ (raw.If _ _ _)) shaped = absurd shaped

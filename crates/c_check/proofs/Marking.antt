@@ -8,45 +8,45 @@ use Rattle.c_check.specs.declared.fault.CheckFault.TheVariants as fault
 use Rattle.c_check.specs.Occurrences.{Marked}
 use Rattle.c_check.specs.Faults.{holds_mark, fault_of}
 
-or_turned : (a b : Bool) → (a || b) ≡ (b || a)
+or_turned : (left right : Bool) → (left || right) ≡ (right || left)
 or_turned true true = refl
 or_turned true false = refl
 or_turned false true = refl
 or_turned false false = refl
 
-same_turned : (x mark : ℕ) → nat_eq x mark ≡ nat_eq mark x
-same_turned x mark = grind arith
+same_turned : (other mark : ℕ) → nat_eq other mark ≡ nat_eq mark other
+same_turned other mark = grind arith
 
-or_false : (b : Bool) → (b || false) ≡ b
+or_false : (holds : Bool) → (holds || false) ≡ holds
 or_false true = refl
 or_false false = refl
 
 -- a list and the same from its end hold a mark alike
 pub holds_turned : (marks : List ℕ) (mark : ℕ) → holds_mark (reverse marks) mark ≡ list_any (nat_eq mark) marks
 holds_turned [] mark = refl
-holds_turned (x ∷ marks) mark =
-    ap (λ (l : List ℕ). holds_mark l mark) (reverse-append (x ∷ []) marks)
-    ∙ list_any-append (λ (other : ℕ). nat_eq other mark) (reverse marks) (x ∷ [])
-    ∙ ap (λ b. holds_mark (reverse marks) mark || b) (or_false (nat_eq x mark))
-    ∙ ap (λ b. b || nat_eq x mark) (holds_turned marks mark) ∙ ap (λ b. list_any (nat_eq mark) marks || b) (same_turned x mark)
-    ∙ or_turned (list_any (nat_eq mark) marks) (nat_eq mark x)
+holds_turned (first ∷ marks) mark =
+    ap (λ (list : List ℕ). holds_mark list mark) (reverse-append (first ∷ []) marks)
+    ∙ list_any-append (λ (other : ℕ). nat_eq other mark) (reverse marks) (first ∷ [])
+    ∙ ap (λ holds. holds_mark (reverse marks) mark || holds) (or_false (nat_eq first mark))
+    ∙ ap (λ holds. holds || nat_eq first mark) (holds_turned marks mark) ∙ ap (λ holds. list_any (nat_eq mark) marks || holds) (same_turned first mark)
+    ∙ or_turned (list_any (nat_eq mark) marks) (nat_eq mark first)
 
 pub turned-push : (marks : List ℕ) (mark : ℕ) → reverse (marks ++ mark ∷ []) ≡ mark ∷ reverse marks
 turned-push marks mark = reverse-append marks (mark ∷ [])
 
-false_not : (b : Bool) → not b ≡ false → b ≡ true
+false_not : (holds : Bool) → not holds ≡ false → holds ≡ true
 false_not true is = refl
 false_not false is = sym is
 
-true_not : (b : Bool) → not b ≡ true → b ≡ false
+true_not : (holds : Bool) → not holds ≡ true → holds ≡ false
 true_not true is = sym is
 true_not false is = refl
 
-pub not-false : {b : Bool} → not b ≡ false → b ≡ true
-not-false {b} is = false_not b is
+pub not-false : {holds : Bool} → not holds ≡ false → holds ≡ true
+not-false {holds} is = false_not holds is
 
-pub not-true : {b : Bool} → not b ≡ true → b ≡ false
-not-true {b} is = true_not b is
+pub not-true : {holds : Bool} → not holds ≡ true → holds ≡ false
+not-true {holds} is = true_not holds is
 
 pub is_twice : (marks : List ℕ) (mark : ℕ) → mark < 1000000 → holds_mark marks mark ≡ true → fault_of marks (Marked mark) ≡ Some (fault.MarkTwice mark)
 is_twice marks mark below holds = rw (lt-ltb mark 1000000 below, holds) refl

@@ -31,30 +31,30 @@ pub record Passes (marks : List ℕ) (here : List Occurrence) (after : List ℕ)
 pub passes_nothing : (marks : List ℕ) → Passes marks [] marks
 passes_nothing marks = record { by = λ later. refl }
 
-pub passes_then : (a b c : List ℕ) (here rest : List Occurrence) → Passes a here b → Passes b rest c → Passes a (here ++ rest) c
-passes_then a b c here rest first second = record {
-  by = λ later. ap (first_fault a) (append_assoc here rest later) ∙ first.by (rest ++ later) ∙ second.by later;
+pub passes_then : (marks between after : List ℕ) (here rest : List Occurrence) → Passes marks here between → Passes between rest after → Passes marks (here ++ rest) after
+passes_then marks between after here rest first second = record {
+  by = λ later. ap (first_fault marks) (append_assoc here rest later) ∙ first.by (rest ++ later) ∙ second.by later;
 }
 
 -- a step behind what passes
-pub meets_behind : {A : Type 0} (means : A → Type 0) (marks after : List ℕ) (here rest : List Occurrence) (r : Result A CheckFault) → Passes marks here after → Meets means after rest r
-    → Meets means marks (here ++ rest) r
+pub meets_behind : {A : Type 0} (means : A → Type 0) (marks after : List ℕ) (here rest : List Occurrence) (answer : Result A CheckFault) → Passes marks here after → Meets means after rest answer
+    → Meets means marks (here ++ rest) answer
 meets_behind means marks after here rest (Ok value) passes meets = meets
 meets_behind means marks after here rest (Err first) passes meets =
     λ later. ap (first_fault marks) (append_assoc here rest later) ∙ passes.by (rest ++ later) ∙ meets later
 
 -- a step, and then another
-pub meets_then : {A B : Type 0} (M : A → Type 0) (N : B → Type 0) (marks : List ℕ) (here rest : List Occurrence) (r : Result A CheckFault) (others : A → Result B CheckFault)
-    → Meets M marks here r → ((value : A) → M value → Meets N marks (here ++ rest) (others value)) → Meets N marks (here ++ rest) (and_then r others)
-meets_then M N marks here rest (Ok value) others meets next = next value meets
-meets_then M N marks here rest (Err first) others meets next = λ later. ap (first_fault marks) (append_assoc here rest later) ∙ meets (rest ++ later)
+pub meets_then : {A B : Type 0} (means : A → Type 0) (meaning : B → Type 0) (marks : List ℕ) (here rest : List Occurrence) (answer : Result A CheckFault) (others : A → Result B CheckFault)
+    → Meets means marks here answer → ((value : A) → means value → Meets meaning marks (here ++ rest) (others value)) → Meets meaning marks (here ++ rest) (and_then answer others)
+meets_then means meaning marks here rest (Ok value) others meets next = next value meets
+meets_then means meaning marks here rest (Err first) others meets next = λ later. ap (first_fault marks) (append_assoc here rest later) ∙ meets (rest ++ later)
 
 -- one occurrence
-pub meets_one : {A : Type 0} (M : A → Type 0) (marks : List ℕ) (occurrence : Occurrence) (found : Option CheckFault) (value : A) → fault_of marks occurrence ≡ found
-    → (Passes marks (occurrence ∷ []) (with_mark marks occurrence) → M value) → Meets M marks (occurrence ∷ []) (unless_fault found value)
-meets_one M marks occurrence None value is means =
-    means (record { by = λ later. ap (λ (o : Option CheckFault). option_or o (first_fault (with_mark marks occurrence) later)) is })
-meets_one M marks occurrence (Some first) value is means = λ later. ap (λ (o : Option CheckFault). option_or o (first_fault (with_mark marks occurrence) later)) is
+pub meets_one : {A : Type 0} (meaning : A → Type 0) (marks : List ℕ) (occurrence : Occurrence) (found : Option CheckFault) (value : A) → fault_of marks occurrence ≡ found
+    → (Passes marks (occurrence ∷ []) (with_mark marks occurrence) → meaning value) → Meets meaning marks (occurrence ∷ []) (unless_fault found value)
+meets_one meaning marks occurrence None value is means =
+    means (record { by = λ later. ap (λ (found : Option CheckFault). option_or found (first_fault (with_mark marks occurrence) later)) is })
+meets_one meaning marks occurrence (Some first) value is means = λ later. ap (λ (found : Option CheckFault). option_or found (first_fault (with_mark marks occurrence) later)) is
 
 -- ---- names
 
@@ -62,21 +62,21 @@ abbrev is_found : {A : Type 0} → Option A → Bool
 is_found None = false
 is_found (Some x) = true
 
-finds : (b : Bool) (first : Binding) (found : Option Binding) (held : Bool) → is_found found ≡ held → is_found (cond b (Some first) found) ≡ (b || held)
+finds : (holds : Bool) (first : Binding) (found : Option Binding) (held : Bool) → is_found found ≡ held → is_found (cond holds (Some first) found) ≡ (holds || held)
 finds true first found held is = refl
 finds false first found held is = is
 
-holds_found : (scope : Bindings) (name : List ℕ) → is_found (find (λ (o : Binding). bytes_eq name o.name) scope) ≡ holds_name (names_of scope) name
+holds_found : (scope : Bindings) (name : List ℕ) → is_found (find (λ (other : Binding). bytes_eq name other.name) scope) ≡ holds_name (names_of scope) name
 holds_found [] name = refl
-holds_found (first ∷ scope) name = finds (bytes_eq name first.name) first (find (λ (o : Binding). bytes_eq name o.name) scope) (holds_name (names_of scope) name) (holds_found scope name)
+holds_found (first ∷ scope) name = finds (bytes_eq name first.name) first (find (λ (other : Binding). bytes_eq name other.name) scope) (holds_name (names_of scope) name) (holds_found scope name)
 
-mapped_found : {A B : Type 0} (f : A → B) (found : Option A) → is_found (option_map f found) ≡ is_found found
-mapped_found f None = refl
-mapped_found f (Some x) = refl
+mapped_found : {A B : Type 0} (function : A → B) (found : Option A) → is_found (option_map function found) ≡ is_found found
+mapped_found function None = refl
+mapped_found function (Some x) = refl
 
 -- a name has a number where it is in scope
 holds_number : (scope : Bindings) (name : List ℕ) → is_found (number_of scope name) ≡ holds_name (names_of scope) name
-holds_number scope name = mapped_found (λ (b : Binding). b.number) (find (λ (o : Binding). bytes_eq name o.name) scope) ∙ holds_found scope name
+holds_number scope name = mapped_found (λ (found_binding : Binding). found_binding.number) (find (λ (other : Binding). bytes_eq name other.name) scope) ∙ holds_found scope name
 
 use_none : (scope : Bindings) (name : List ℕ) (line : ℕ) (marks : List ℕ) → number_of scope name ≡ None → fault_of marks (Use (names_of scope) name line) ≡ Some (fault.Undeclared name line)
 use_none scope name line marks is = rw (← holds_number scope name, is) refl
@@ -91,7 +91,7 @@ pub record Stands (scope : Bindings) (marks : List ℕ) (name : List ℕ) (line 
 
 found_meets : (scope : Bindings) (marks : List ℕ) (name : List ℕ) (line : ℕ) (found : Option ℕ) → number_of scope name ≡ found
     → Meets (Stands scope marks name line) marks (Use (names_of scope) name line ∷ []) (found_or name line found)
-found_meets scope marks name line None is = λ later. ap (λ (o : Option CheckFault). option_or o (first_fault marks later)) (use_none scope name line marks is)
+found_meets scope marks name line None is = λ later. ap (λ (found : Option CheckFault). option_or found (first_fault marks later)) (use_none scope name line marks is)
 found_meets scope marks name line (Some number) is =
     meets_one (λ (n : ℕ). Stands scope marks name line n) marks (Use (names_of scope) name line) None number (use_some scope name line number marks is) (λ passes. record { is = is; passes = passes })
 
@@ -101,60 +101,60 @@ variable_meets scope marks name line = found_meets scope marks name line (number
 -- ---- expressions
 
 -- what an expression stands for
-pub record Means (scope : Bindings) (marks : List ℕ) (e : RawExpression) (made : Expression) : Type 0 where
-  pub resolves : ResolvesExpression scope e made
-  pub passes : Passes marks (uses_in (names_of scope) e) marks
+pub record Means (scope : Bindings) (marks : List ℕ) (expr : RawExpression) (made : Expression) : Type 0 where
+  pub resolves : ResolvesExpression scope expr made
+  pub passes : Passes marks (uses_in (names_of scope) expr) marks
 
-pub expression_meets : (scope : Bindings) (marks : List ℕ) (e : RawExpression) → Meets (Means scope marks e) marks (uses_in (names_of scope) e) (expression_in scope e)
+pub expression_meets : (scope : Bindings) (marks : List ℕ) (expr : RawExpression) → Meets (Means scope marks expr) marks (uses_in (names_of scope) expr) (expression_in scope expr)
 expression_meets scope marks (raw.Num z) = record { resolves = constant z; passes = passes_nothing marks }
 expression_meets scope marks (raw.Named name line) =
     meets_then (Stands scope marks name line) (Means scope marks (raw.Named name line)) marks (Use (names_of scope) name line ∷ []) [] (variable_in scope name line)
     (λ (number : ℕ). Ok (tree.Var number)) (variable_meets scope marks name line)
     (λ number stands. record { resolves = variable name line number stands.is; passes = stands.passes })
-expression_meets scope marks (raw.Un op e) =
-    subst (λ (here : List Occurrence). Meets (Means scope marks (raw.Un op e)) marks here (expression_in scope (raw.Un op e))) (append-nil (uses_in (names_of scope) e))
-    (meets_then (Means scope marks e) (Means scope marks (raw.Un op e)) marks (uses_in (names_of scope) e) [] (expression_in scope e)
-    (λ (made : Expression). Ok (tree.Un op made)) (expression_meets scope marks e)
-    (λ made means. record { resolves = unary op e made means.resolves; passes = means.passes }))
-expression_meets scope marks (raw.Bin op line e f) =
+expression_meets scope marks (raw.Un op expr) =
+    subst (λ (here : List Occurrence). Meets (Means scope marks (raw.Un op expr)) marks here (expression_in scope (raw.Un op expr))) (append-nil (uses_in (names_of scope) expr))
+    (meets_then (Means scope marks expr) (Means scope marks (raw.Un op expr)) marks (uses_in (names_of scope) expr) [] (expression_in scope expr)
+    (λ (made : Expression). Ok (tree.Un op made)) (expression_meets scope marks expr)
+    (λ made means. record { resolves = unary op expr made means.resolves; passes = means.passes }))
+expression_meets scope marks (raw.Bin op line left right) =
     let names = names_of scope in
-    meets_then (Means scope marks e) (Means scope marks (raw.Bin op line e f)) marks (uses_in names e) (uses_in names f) (expression_in scope e)
-    (λ (first : Expression). and_then (expression_in scope f) (λ (second : Expression). Ok (tree.Bin op first second))) (expression_meets scope marks e)
-    (λ first one. meets_behind (Means scope marks (raw.Bin op line e f)) marks marks (uses_in names e) (uses_in names f)
-    (and_then (expression_in scope f) (λ (second : Expression). Ok (tree.Bin op first second))) one.passes
-    (subst (λ (here : List Occurrence). Meets (Means scope marks (raw.Bin op line e f)) marks here (and_then (expression_in scope f) (λ (second : Expression). Ok (tree.Bin op first second)))) (append-nil (uses_in names f))
-    (meets_then (Means scope marks f) (Means scope marks (raw.Bin op line e f)) marks (uses_in names f) [] (expression_in scope f)
-    (λ (second : Expression). Ok (tree.Bin op first second)) (expression_meets scope marks f)
+    meets_then (Means scope marks left) (Means scope marks (raw.Bin op line left right)) marks (uses_in names left) (uses_in names right) (expression_in scope left)
+    (λ (first : Expression). and_then (expression_in scope right) (λ (second : Expression). Ok (tree.Bin op first second))) (expression_meets scope marks left)
+    (λ first one. meets_behind (Means scope marks (raw.Bin op line left right)) marks marks (uses_in names left) (uses_in names right)
+    (and_then (expression_in scope right) (λ (second : Expression). Ok (tree.Bin op first second))) one.passes
+    (subst (λ (here : List Occurrence). Meets (Means scope marks (raw.Bin op line left right)) marks here (and_then (expression_in scope right) (λ (second : Expression). Ok (tree.Bin op first second)))) (append-nil (uses_in names right))
+    (meets_then (Means scope marks right) (Means scope marks (raw.Bin op line left right)) marks (uses_in names right) [] (expression_in scope right)
+    (λ (second : Expression). Ok (tree.Bin op first second)) (expression_meets scope marks right)
     (λ second two. record {
-      resolves = binary op line e f first second one.resolves two.resolves;
-      passes = passes_then marks marks marks (uses_in names e) (uses_in names f) one.passes two.passes;
+      resolves = binary op line left right first second one.resolves two.resolves;
+      passes = passes_then marks marks marks (uses_in names left) (uses_in names right) one.passes two.passes;
     }))))
-expression_meets scope marks (raw.Cond c e f) =
+expression_meets scope marks (raw.Cond test left right) =
     let names = names_of scope in
-    let whole = Means scope marks (raw.Cond c e f) in
-    meets_then (Means scope marks c) whole marks (uses_in names c) (uses_in names e ++ uses_in names f) (expression_in scope c)
-    (λ (cond : Expression). and_then (expression_in scope e) (λ (first : Expression). and_then (expression_in scope f) (λ (second : Expression). Ok (tree.Cond cond first second)))) (expression_meets scope marks c)
-    (λ cond zero. meets_behind whole marks marks (uses_in names c) (uses_in names e ++ uses_in names f)
-    (and_then (expression_in scope e) (λ (first : Expression). and_then (expression_in scope f) (λ (second : Expression). Ok (tree.Cond cond first second)))) zero.passes
-    (meets_then (Means scope marks e) whole marks (uses_in names e) (uses_in names f) (expression_in scope e)
-    (λ (first : Expression). and_then (expression_in scope f) (λ (second : Expression). Ok (tree.Cond cond first second))) (expression_meets scope marks e)
-    (λ first one. meets_behind whole marks marks (uses_in names e) (uses_in names f)
-    (and_then (expression_in scope f) (λ (second : Expression). Ok (tree.Cond cond first second))) one.passes
-    (subst (λ (here : List Occurrence). Meets whole marks here (and_then (expression_in scope f) (λ (second : Expression). Ok (tree.Cond cond first second)))) (append-nil (uses_in names f))
-    (meets_then (Means scope marks f) whole marks (uses_in names f) [] (expression_in scope f)
-    (λ (second : Expression). Ok (tree.Cond cond first second)) (expression_meets scope marks f)
+    let whole = Means scope marks (raw.Cond test left right) in
+    meets_then (Means scope marks test) whole marks (uses_in names test) (uses_in names left ++ uses_in names right) (expression_in scope test)
+    (λ (cond : Expression). and_then (expression_in scope left) (λ (first : Expression). and_then (expression_in scope right) (λ (second : Expression). Ok (tree.Cond cond first second)))) (expression_meets scope marks test)
+    (λ cond zero. meets_behind whole marks marks (uses_in names test) (uses_in names left ++ uses_in names right)
+    (and_then (expression_in scope left) (λ (first : Expression). and_then (expression_in scope right) (λ (second : Expression). Ok (tree.Cond cond first second)))) zero.passes
+    (meets_then (Means scope marks left) whole marks (uses_in names left) (uses_in names right) (expression_in scope left)
+    (λ (first : Expression). and_then (expression_in scope right) (λ (second : Expression). Ok (tree.Cond cond first second))) (expression_meets scope marks left)
+    (λ first one. meets_behind whole marks marks (uses_in names left) (uses_in names right)
+    (and_then (expression_in scope right) (λ (second : Expression). Ok (tree.Cond cond first second))) one.passes
+    (subst (λ (here : List Occurrence). Meets whole marks here (and_then (expression_in scope right) (λ (second : Expression). Ok (tree.Cond cond first second)))) (append-nil (uses_in names right))
+    (meets_then (Means scope marks right) whole marks (uses_in names right) [] (expression_in scope right)
+    (λ (second : Expression). Ok (tree.Cond cond first second)) (expression_meets scope marks right)
     (λ second two. record {
-      resolves = conditional c e f cond first second zero.resolves one.resolves two.resolves;
-      passes = passes_then marks marks marks (uses_in names c) (uses_in names e ++ uses_in names f) zero.passes
-          (passes_then marks marks marks (uses_in names e) (uses_in names f) one.passes two.passes);
+      resolves = conditional test left right cond first second zero.resolves one.resolves two.resolves;
+      passes = passes_then marks marks marks (uses_in names test) (uses_in names left ++ uses_in names right) zero.passes
+          (passes_then marks marks marks (uses_in names left) (uses_in names right) one.passes two.passes);
     }))))))
 
 -- the initial value of a variable
 abbrev pub Begun : Bindings → Option RawExpression → Option Expression → Type 0
 Begun scope None None = Unit {0}
 Begun scope None (Some value) = ⊥
-Begun scope (Some e) None = ⊥
-Begun scope (Some e) (Some value) = ResolvesExpression scope e value
+Begun scope (Some expr) None = ⊥
+Begun scope (Some expr) (Some value) = ResolvesExpression scope expr value
 
 pub record Begins (scope : Bindings) (marks : List ℕ) (initialiser : Option RawExpression) (made : Option Expression) : Type 0 where
   pub begun : Begun scope initialiser made
@@ -162,9 +162,9 @@ pub record Begins (scope : Bindings) (marks : List ℕ) (initialiser : Option Ra
 
 pub initial_meets : (scope : Bindings) (marks : List ℕ) (initialiser : Option RawExpression) → Meets (Begins scope marks initialiser) marks (uses_in_option (names_of scope) initialiser) (initial_value scope initialiser)
 initial_meets scope marks None = record { begun = tt; passes = passes_nothing marks }
-initial_meets scope marks (Some e) =
-    subst (λ (here : List Occurrence). Meets (Begins scope marks (Some e)) marks here (initial_value scope (Some e))) (append-nil (uses_in (names_of scope) e))
-    (meets_then (Means scope marks e) (Begins scope marks (Some e)) marks (uses_in (names_of scope) e) [] (expression_in scope e) (λ (value : Expression). Ok (Some value)) (expression_meets scope marks e)
+initial_meets scope marks (Some expr) =
+    subst (λ (here : List Occurrence). Meets (Begins scope marks (Some expr)) marks here (initial_value scope (Some expr))) (append-nil (uses_in (names_of scope) expr))
+    (meets_then (Means scope marks expr) (Begins scope marks (Some expr)) marks (uses_in (names_of scope) expr) [] (expression_in scope expr) (λ (value : Expression). Ok (Some value)) (expression_meets scope marks expr)
     (λ value means. record { begun = means.resolves; passes = means.passes }))
 
 -- ---- what changes
@@ -177,9 +177,9 @@ pub record Grows (old new : Resolver) (added : List Var) (more : ℕ) : Type 0 w
 pub grows_nothing : (old new : Resolver) → new.vars ≡ old.vars → new.loops ≡ old.loops → Grows old new [] 0
 grows_nothing old new vars loops = record { vars = vars ∙ sym (append-nil old.vars); loops = omega (arith, loops) }
 
-pub grows_then : (a b c : Resolver) (vs ws : List Var) (m n : ℕ) → Grows a b vs m → Grows b c ws n → Grows a c (vs ++ ws) (m + n)
-grows_then a b c vs ws m n first second = record {
-  vars = second.vars ∙ ap (λ (l : List Var). l ++ ws) first.vars ∙ append_assoc a.vars vs ws;
+pub grows_then : (old between new : Resolver) (added added_then : List Var) (m n : ℕ) → Grows old between added m → Grows between new added_then n → Grows old new (added ++ added_then) (m + n)
+grows_then old between new added added_then m n first second = record {
+  vars = second.vars ∙ ap (λ (some_vars : List Var). some_vars ++ added_then) first.vars ∙ append_assoc old.vars added added_then;
   loops = omega (arith, first.loops, second.loops);
 }
 
@@ -216,30 +216,30 @@ mark_option_meets at None = record { passes = passes_nothing at.marks; table = r
 mark_option_meets at (Some mark) = mark_meets at mark
 
 -- what a condition stands for
-pub record Tests (old : Resolver) (c : Option RawCondition) (found : MadeCondition) : Type 0 where
-  pub resolves : ResolvesCondition (scope_at old) c found.cond
-  pub passes : Passes old.marks (uses_in_condition_option (names_of (scope_at old)) c) found.at.marks
+pub record Tests (old : Resolver) (test : Option RawCondition) (found : MadeCondition) : Type 0 where
+  pub resolves : ResolvesCondition (scope_at old) test found.cond
+  pub passes : Passes old.marks (uses_in_condition_option (names_of (scope_at old)) test) found.at.marks
   pub table : found.at.table ≡ old.table
   pub grows : Grows old found.at [] 0
 
-pub condition_meets : (at : Resolver) (c : RawCondition) → Meets (Tests at (Some c)) at.marks (uses_in_condition (names_of (scope_at at)) c) (condition_at at c)
-condition_meets at c =
+pub condition_meets : (at : Resolver) (test : RawCondition) → Meets (Tests at (Some test)) at.marks (uses_in_condition (names_of (scope_at at)) test) (condition_at at test)
+condition_meets at test =
     let names = names_of (scope_at at) in
-    meets_then (Marks at c.mark) (Tests at (Some c)) at.marks (marked_option c.mark) (uses_in names c.cond) (marked_option_at at c.mark)
-    (λ (marked : Resolver). and_then (expression_in (scope_at marked) c.cond) (λ (cond : Expression). Ok (with_condition marked cond))) (mark_option_meets at c.mark)
-    (λ marked marks. meets_behind (Tests at (Some c)) at.marks marked.marks (marked_option c.mark) (uses_in names c.cond)
-    (and_then (expression_in (scope_at marked) c.cond) (λ (cond : Expression). Ok (with_condition marked cond))) marks.passes
-    (subst (λ (t : Table). Meets (Tests at (Some c)) marked.marks (uses_in names c.cond) (and_then (expression_in (scope_of t) c.cond) (λ (cond : Expression). Ok (with_condition marked cond)))) (sym marks.table)
-    (subst (λ (here : List Occurrence). Meets (Tests at (Some c)) marked.marks here (and_then (expression_in (scope_at at) c.cond) (λ (cond : Expression). Ok (with_condition marked cond)))) (append-nil (uses_in names c.cond))
-    (meets_then (Means (scope_at at) marked.marks c.cond) (Tests at (Some c)) marked.marks (uses_in names c.cond) [] (expression_in (scope_at at) c.cond) (λ (cond : Expression). Ok (with_condition marked cond))
-    (expression_meets (scope_at at) marked.marks c.cond)
+    meets_then (Marks at test.mark) (Tests at (Some test)) at.marks (marked_option test.mark) (uses_in names test.cond) (marked_option_at at test.mark)
+    (λ (marked : Resolver). and_then (expression_in (scope_at marked) test.cond) (λ (cond : Expression). Ok (with_condition marked cond))) (mark_option_meets at test.mark)
+    (λ marked marks. meets_behind (Tests at (Some test)) at.marks marked.marks (marked_option test.mark) (uses_in names test.cond)
+    (and_then (expression_in (scope_at marked) test.cond) (λ (cond : Expression). Ok (with_condition marked cond))) marks.passes
+    (subst (λ (some_table : Table). Meets (Tests at (Some test)) marked.marks (uses_in names test.cond) (and_then (expression_in (scope_of some_table) test.cond) (λ (cond : Expression). Ok (with_condition marked cond)))) (sym marks.table)
+    (subst (λ (here : List Occurrence). Meets (Tests at (Some test)) marked.marks here (and_then (expression_in (scope_at at) test.cond) (λ (cond : Expression). Ok (with_condition marked cond)))) (append-nil (uses_in names test.cond))
+    (meets_then (Means (scope_at at) marked.marks test.cond) (Tests at (Some test)) marked.marks (uses_in names test.cond) [] (expression_in (scope_at at) test.cond) (λ (cond : Expression). Ok (with_condition marked cond))
+    (expression_meets (scope_at at) marked.marks test.cond)
     (λ cond means. record {
-      resolves = stands c cond means.resolves;
-      passes = passes_then at.marks marked.marks marked.marks (marked_option c.mark) (uses_in names c.cond) marks.passes means.passes;
+      resolves = stands test cond means.resolves;
+      passes = passes_then at.marks marked.marks marked.marks (marked_option test.mark) (uses_in names test.cond) marks.passes means.passes;
       table = marks.table;
       grows = grows_nothing at marked marks.vars marks.loops;
     })))))
 
-pub condition_option_meets : (at : Resolver) (c : Option RawCondition) → Meets (Tests at c) at.marks (uses_in_condition_option (names_of (scope_at at)) c) (condition_option_at at c)
+pub condition_option_meets : (at : Resolver) (test : Option RawCondition) → Meets (Tests at test) at.marks (uses_in_condition_option (names_of (scope_at at)) test) (condition_option_at at test)
 condition_option_meets at None = record { resolves = left_out; passes = passes_nothing at.marks; table = refl; grows = grows_nothing at at refl refl }
-condition_option_meets at (Some c) = condition_meets at c
+condition_option_meets at (Some test) = condition_meets at test

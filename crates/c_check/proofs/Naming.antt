@@ -26,20 +26,20 @@ named-append m (Declaration block_ name line ∷ xs) ys = named-append m xs ys
 named-append m (Jump in_loop line ∷ xs) ys = named-append m xs ys
 named-append m (Marked mark ∷ xs) ys = omega (arith, named-append m xs ys)
 
-named-uses : (m : ℕ) (names : Names) (e : RawExpression) → named m (uses_in names e) ≡ 0
+named-uses : (m : ℕ) (names : Names) (expr : RawExpression) → named m (uses_in names expr) ≡ 0
 named-uses m names (raw.Num z) = refl
 named-uses m names (raw.Named name line) = refl
-named-uses m names (raw.Un op e) = named-uses m names e
-named-uses m names (raw.Bin op line e f) = omega (arith, named-append m (uses_in names e) (uses_in names f), named-uses m names e, named-uses m names f)
-named-uses m names (raw.Cond c e f) =
-    omega (arith, named-append m (uses_in names c) (uses_in names e ++ uses_in names f), named-append m (uses_in names e) (uses_in names f), named-uses m names c, named-uses m names e, named-uses m names f)
+named-uses m names (raw.Un op expr) = named-uses m names expr
+named-uses m names (raw.Bin op line left right) = omega (arith, named-append m (uses_in names left) (uses_in names right), named-uses m names left, named-uses m names right)
+named-uses m names (raw.Cond test left right) =
+    omega (arith, named-append m (uses_in names test) (uses_in names left ++ uses_in names right), named-append m (uses_in names left) (uses_in names right), named-uses m names test, named-uses m names left, named-uses m names right)
 
-named-behind_uses : (m : ℕ) (names : Names) (e : RawExpression) (rest : List Occurrence) → named m (uses_in names e ++ rest) ≡ named m rest
-named-behind_uses m names e rest = omega (arith, named-append m (uses_in names e) rest, named-uses m names e)
+named-behind_uses : (m : ℕ) (names : Names) (expr : RawExpression) (rest : List Occurrence) → named m (uses_in names expr ++ rest) ≡ named m rest
+named-behind_uses m names expr rest = omega (arith, named-append m (uses_in names expr) rest, named-uses m names expr)
 
-named-condition : (m : ℕ) (names : Names) (c : Option RawCondition) → named m (uses_in_condition_option names c) ≡ named m (marked_option (named_mark c))
+named-condition : (m : ℕ) (names : Names) (test : Option RawCondition) → named m (uses_in_condition_option names test) ≡ named m (marked_option (named_mark test))
 named-condition m names None = refl
-named-condition m names (Some c) = omega (arith, named-append m (marked_option c.mark) (uses_in names c.cond), named-uses m names c.cond)
+named-condition m names (Some test) = omega (arith, named-append m (marked_option test.mark) (uses_in names test.cond), named-uses m names test.cond)
 
 -- The count is that of the names, and one more where the mark is an automatic one of these loops.
 pub record Counted (m count named_ from until : ℕ) : Type 0 where
@@ -66,7 +66,7 @@ loop_counted : (m : ℕ) (mark : Option ℕ) (body : RawStatements) (loop : ℕ)
 loop_counted m (Some mark) body loop = record { auto = 0; is = omega arith; once = once_none m (first_automatic + loop) (first_automatic + suc loop) }
 loop_counted m None body loop = by (begins_with_mark body) refl
   where
-    by : (b : Bool) → begins_with_mark body ≡ b → Counted m (one_if (is_mark (loop_mark None body loop) m)) 0 (first_automatic + loop) (first_automatic + suc loop)
+    by : (holds : Bool) → begins_with_mark body ≡ holds → Counted m (one_if (is_mark (loop_mark None body loop) m)) 0 (first_automatic + loop) (first_automatic + suc loop)
     by true is = rw is (record { auto = 0; is = omega arith; once = once_none m (first_automatic + loop) (first_automatic + suc loop) })
     by false is = rw is (record {
       auto = one_if (first_automatic + loop == m);
@@ -77,130 +77,130 @@ loop_counted m None body loop = by (begins_with_mark body) refl
 
 marks_followed : (m : ℕ) (first last : Statements) → marks m (followed_by first last) ≡ marks m first + marks m last
 marks_followed m tree.Nil last = omega arith
-marks_followed m (tree.Set x e others) last = marks_followed m others last
-marks_followed m (tree.If e a b others) last = omega (arith, marks_followed m others last)
+marks_followed m (tree.Set number expr others) last = marks_followed m others last
+marks_followed m (tree.If cond branch alternative others) last = omega (arith, marks_followed m others last)
 marks_followed m (tree.Loop mark cond body step test_first others) last = omega (arith, marks_followed m others last)
 marks_followed m (tree.Break others) last = marks_followed m others last
 marks_followed m (tree.Continue others) last = marks_followed m others last
-marks_followed m (tree.Return e others) last = marks_followed m others last
+marks_followed m (tree.Return expr others) last = marks_followed m others last
 marks_followed m (tree.Mark mark others) last = omega (arith, marks_followed m others last)
-marks_followed m (tree.Block a others) last = omega (arith, marks_followed m others last)
+marks_followed m (tree.Block items others) last = omega (arith, marks_followed m others last)
 
 -- what is counted in two lists of statements
-counted_two : (m count p q : ℕ) (n : Counts) (a others : RawStatements) (here : List Occurrence) (b c : ℕ) → b + c ≡ count → named m here ≡ p + q
-    → Counted m b p (first_automatic + n.loops) (first_automatic + (n.loops + loops_in a)) → Counted m c q (first_automatic + (n.loops + loops_in a)) (first_automatic + ((n.loops + loops_in a) + loops_in others))
-    → Counted m count (named m here) (first_automatic + n.loops) (first_automatic + (n.loops + (loops_in a + loops_in others)))
-counted_two m count p q n a others here b c same names one two =
-    counted_as m (b + c) count (p + q) (named m here) (first_automatic + n.loops) (first_automatic + (n.loops + (loops_in a + loops_in others))) same (sym names)
-    (counted_until m (b + c) (p + q) (first_automatic + n.loops) (first_automatic + ((n.loops + loops_in a) + loops_in others)) (first_automatic + (n.loops + (loops_in a + loops_in others))) (omega arith)
-    (counted_then m b c p q (first_automatic + n.loops) (first_automatic + (n.loops + loops_in a)) (first_automatic + ((n.loops + loops_in a) + loops_in others)) (omega arith) (omega arith) one two))
+counted_two : (m count p q : ℕ) (before : Counts) (part others : RawStatements) (here : List Occurrence) (b c : ℕ) → b + c ≡ count → named m here ≡ p + q
+    → Counted m b p (first_automatic + before.loops) (first_automatic + (before.loops + loops_in part)) → Counted m c q (first_automatic + (before.loops + loops_in part)) (first_automatic + ((before.loops + loops_in part) + loops_in others))
+    → Counted m count (named m here) (first_automatic + before.loops) (first_automatic + (before.loops + (loops_in part + loops_in others)))
+counted_two m count p q before part others here b c same names one two =
+    counted_as m (b + c) count (p + q) (named m here) (first_automatic + before.loops) (first_automatic + (before.loops + (loops_in part + loops_in others))) same (sym names)
+    (counted_until m (b + c) (p + q) (first_automatic + before.loops) (first_automatic + ((before.loops + loops_in part) + loops_in others)) (first_automatic + (before.loops + (loops_in part + loops_in others))) (omega arith)
+    (counted_then m b c p q (first_automatic + before.loops) (first_automatic + (before.loops + loops_in part)) (first_automatic + ((before.loops + loops_in part) + loops_in others)) (omega arith) (omega arith) one two))
 
 -- what is counted in a loop, its body and the rest of the list
-counted_loop : (m : ℕ) (n : Counts) (a others : RawStatements) (mark own : Option ℕ) (b c p q count names : ℕ) → one_if (is_mark own m) + (b + (0 + c)) ≡ count → names ≡ named m (marked_option mark) + (p + q)
-    → Counted m (one_if (is_mark own m)) (named m (marked_option mark)) (first_automatic + n.loops) (first_automatic + suc n.loops)
-    → Counted m b p (first_automatic + suc n.loops) (first_automatic + (suc n.loops + loops_in a))
-    → Counted m c q (first_automatic + (suc n.loops + loops_in a)) (first_automatic + ((suc n.loops + loops_in a) + loops_in others))
-    → Counted m count names (first_automatic + n.loops) (first_automatic + (n.loops + suc (loops_in a + loops_in others)))
-counted_loop m n a others mark own b c p q count names same names_same zero one two =
-    counted_as m (one_if (is_mark own m) + (b + c)) count (named m (marked_option mark) + (p + q)) names (first_automatic + n.loops) (first_automatic + (n.loops + suc (loops_in a + loops_in others)))
+counted_loop : (m : ℕ) (before : Counts) (part others : RawStatements) (mark own : Option ℕ) (b c p q count names : ℕ) → one_if (is_mark own m) + (b + (0 + c)) ≡ count → names ≡ named m (marked_option mark) + (p + q)
+    → Counted m (one_if (is_mark own m)) (named m (marked_option mark)) (first_automatic + before.loops) (first_automatic + suc before.loops)
+    → Counted m b p (first_automatic + suc before.loops) (first_automatic + (suc before.loops + loops_in part))
+    → Counted m c q (first_automatic + (suc before.loops + loops_in part)) (first_automatic + ((suc before.loops + loops_in part) + loops_in others))
+    → Counted m count names (first_automatic + before.loops) (first_automatic + (before.loops + suc (loops_in part + loops_in others)))
+counted_loop m before part others mark own b c p q count names same names_same zero one two =
+    counted_as m (one_if (is_mark own m) + (b + c)) count (named m (marked_option mark) + (p + q)) names (first_automatic + before.loops) (first_automatic + (before.loops + suc (loops_in part + loops_in others)))
     (omega (arith, same)) (sym names_same)
-    (counted_until m (one_if (is_mark own m) + (b + c)) (named m (marked_option mark) + (p + q)) (first_automatic + n.loops) (first_automatic + ((suc n.loops + loops_in a) + loops_in others))
-    (first_automatic + (n.loops + suc (loops_in a + loops_in others))) (omega arith)
-    (counted_then m (one_if (is_mark own m)) (b + c) (named m (marked_option mark)) (p + q) (first_automatic + n.loops) (first_automatic + suc n.loops) (first_automatic + ((suc n.loops + loops_in a) + loops_in others))
+    (counted_until m (one_if (is_mark own m) + (b + c)) (named m (marked_option mark) + (p + q)) (first_automatic + before.loops) (first_automatic + ((suc before.loops + loops_in part) + loops_in others))
+    (first_automatic + (before.loops + suc (loops_in part + loops_in others))) (omega arith)
+    (counted_then m (one_if (is_mark own m)) (b + c) (named m (marked_option mark)) (p + q) (first_automatic + before.loops) (first_automatic + suc before.loops) (first_automatic + ((suc before.loops + loops_in part) + loops_in others))
     (omega arith) (omega arith) zero
-    (counted_then m b c p q (first_automatic + suc n.loops) (first_automatic + (suc n.loops + loops_in a)) (first_automatic + ((suc n.loops + loops_in a) + loops_in others)) (omega arith) (omega arith) one two)))
+    (counted_then m b c p q (first_automatic + suc before.loops) (first_automatic + (suc before.loops + loops_in part)) (first_automatic + ((suc before.loops + loops_in part) + loops_in others)) (omega arith) (omega arith) one two)))
 
-pub marks_counted : (m : ℕ) (names block_ : Names) (in_loop : Bool) (scope : Bindings) (n : Counts) (stmts : RawStatements) (made : Statements) → Resolves scope n stmts made
-    → Counted m (marks m made) (named m (occurrences names block_ in_loop stmts)) (first_automatic + n.loops) (first_automatic + (n.loops + loops_in stmts))
-marks_counted m names block_ in_loop _ _ _ _ (none scope n) = record { auto = 0; is = refl; once = once_none m (first_automatic + n.loops) (first_automatic + (n.loops + 0)) }
-marks_counted m names block_ in_loop _ _ _ _ (declared scope n others made r) = marks_counted m names block_ in_loop scope n others made r
-marks_counted m names block_ in_loop _ _ _ _ (declares scope n var ds others made r) =
-    marks_counted m (var.name ∷ names) (var.name ∷ block_) in_loop (binding var n.vars ∷ scope) (one_variable_more n) (raw.Declare ds others) made r
-marks_counted m names block_ in_loop _ _ _ _ (initialises scope n var e ds others value made v r) =
-    let uses = uses_in (var.name ∷ names) e in
-    let more = in_declarators (var.name ∷ names) (var.name ∷ block_) ds in
-    let rest = occurrences (with_names ds (var.name ∷ names)) (with_names ds (var.name ∷ block_)) in_loop others in
-    counted_as m (marks m made) (marks m made) (named m (more ++ rest)) (named m ((uses ++ more) ++ rest)) (first_automatic + n.loops) (first_automatic + (n.loops + loops_in others)) refl
-    (sym (ap (named m) (append_assoc uses more rest) ∙ named-behind_uses m (var.name ∷ names) e (more ++ rest)))
-    (marks_counted m (var.name ∷ names) (var.name ∷ block_) in_loop (binding var n.vars ∷ scope) (one_variable_more n) (raw.Declare ds others) made r)
-marks_counted m names block_ in_loop _ _ _ _ (assigns scope n name line number e others value made found v r) =
+pub marks_counted : (m : ℕ) (names block_ : Names) (in_loop : Bool) (scope : Bindings) (before : Counts) (stmts : RawStatements) (made : Statements) → Resolves scope before stmts made
+    → Counted m (marks m made) (named m (occurrences names block_ in_loop stmts)) (first_automatic + before.loops) (first_automatic + (before.loops + loops_in stmts))
+marks_counted m names block_ in_loop _ _ _ _ (none scope before) = record { auto = 0; is = refl; once = once_none m (first_automatic + before.loops) (first_automatic + (before.loops + 0)) }
+marks_counted m names block_ in_loop _ _ _ _ (declared scope before others made made_is) = marks_counted m names block_ in_loop scope before others made made_is
+marks_counted m names block_ in_loop _ _ _ _ (declares scope before var declarators others made made_is) =
+    marks_counted m (var.name ∷ names) (var.name ∷ block_) in_loop (binding var before.vars ∷ scope) (one_variable_more before) (raw.Declare declarators others) made made_is
+marks_counted m names block_ in_loop _ _ _ _ (initialises scope before var expr declarators others value made value_is made_is) =
+    let uses = uses_in (var.name ∷ names) expr in
+    let more = in_declarators (var.name ∷ names) (var.name ∷ block_) declarators in
+    let rest = occurrences (with_names declarators (var.name ∷ names)) (with_names declarators (var.name ∷ block_)) in_loop others in
+    counted_as m (marks m made) (marks m made) (named m (more ++ rest)) (named m ((uses ++ more) ++ rest)) (first_automatic + before.loops) (first_automatic + (before.loops + loops_in others)) refl
+    (sym (ap (named m) (append_assoc uses more rest) ∙ named-behind_uses m (var.name ∷ names) expr (more ++ rest)))
+    (marks_counted m (var.name ∷ names) (var.name ∷ block_) in_loop (binding var before.vars ∷ scope) (one_variable_more before) (raw.Declare declarators others) made made_is)
+marks_counted m names block_ in_loop _ _ _ _ (assigns scope before name line number expr others value made found value_is made_is) =
     let rest = occurrences names block_ in_loop others in
-    counted_as m (marks m made) (marks m made) (named m rest) (named m (uses_in names e ++ rest)) (first_automatic + n.loops) (first_automatic + (n.loops + loops_in others)) refl
-    (sym (named-behind_uses m names e rest)) (marks_counted m names block_ in_loop scope n others made r)
-marks_counted m names block_ in_loop _ _ _ _ (branches scope n c a others test first made v r s) =
-    let inner = occurrences names [] in_loop a in
+    counted_as m (marks m made) (marks m made) (named m rest) (named m (uses_in names expr ++ rest)) (first_automatic + before.loops) (first_automatic + (before.loops + loops_in others)) refl
+    (sym (named-behind_uses m names expr rest)) (marks_counted m names block_ in_loop scope before others made made_is)
+marks_counted m names block_ in_loop _ _ _ _ (branches scope before test branch others cond first made cond_is first_is made_is) =
+    let inner = occurrences names [] in_loop branch in
     let rest = occurrences names block_ in_loop others in
-    counted_two m (marks m first + (0 + marks m made)) (named m inner) (named m rest) n a others (uses_in names c ++ (inner ++ rest)) (marks m first) (marks m made) (omega arith)
-    (named-behind_uses m names c (inner ++ rest) ∙ named-append m inner rest) (marks_counted m names [] in_loop scope n a first r) (marks_counted m names block_ in_loop scope (behind a n) others made s)
-marks_counted m names block_ in_loop _ _ _ _ (chooses scope n c a b others test first second made v r s t) =
-    let one = occurrences names [] in_loop a in
-    let two = occurrences names [] in_loop b in
+    counted_two m (marks m first + (0 + marks m made)) (named m inner) (named m rest) before branch others (uses_in names test ++ (inner ++ rest)) (marks m first) (marks m made) (omega arith)
+    (named-behind_uses m names test (inner ++ rest) ∙ named-append m inner rest) (marks_counted m names [] in_loop scope before branch first first_is) (marks_counted m names block_ in_loop scope (behind branch before) others made made_is)
+marks_counted m names block_ in_loop _ _ _ _ (chooses scope before test branch alternative others cond first second made cond_is first_is second_is made_is) =
+    let one = occurrences names [] in_loop branch in
+    let two = occurrences names [] in_loop alternative in
     let rest = occurrences names block_ in_loop others in
-    let between = behind a n in
-    counted_as m (marks m first + (marks m second + marks m made)) (marks m first + (marks m second + marks m made)) (named m one + named m (two ++ rest)) (named m (uses_in names c ++ (one ++ (two ++ rest))))
-    (first_automatic + n.loops) (first_automatic + (n.loops + (loops_in a + (loops_in b + loops_in others)))) refl (sym (named-behind_uses m names c (one ++ (two ++ rest)) ∙ named-append m one (two ++ rest)))
-    (counted_until m (marks m first + (marks m second + marks m made)) (named m one + named m (two ++ rest)) (first_automatic + n.loops) (first_automatic + (between.loops + (loops_in b + loops_in others)))
-    (first_automatic + (n.loops + (loops_in a + (loops_in b + loops_in others)))) (omega arith)
-    (counted_then m (marks m first) (marks m second + marks m made) (named m one) (named m (two ++ rest)) (first_automatic + n.loops) (first_automatic + between.loops) (first_automatic + (between.loops + (loops_in b + loops_in others)))
-    (omega arith) (omega arith) (marks_counted m names [] in_loop scope n a first r)
-    (counted_two m (marks m second + marks m made) (named m two) (named m rest) between b others (two ++ rest) (marks m second) (marks m made) refl (named-append m two rest)
-    (marks_counted m names [] in_loop scope between b second s) (marks_counted m names block_ in_loop scope (behind b between) others made t))))
-marks_counted m names block_ in_loop _ _ _ _ (while_loop scope n c a others test body made v r s) =
-    let uses = uses_in_condition names c in
-    let inner = occurrences names [] true a in
+    let between = behind branch before in
+    counted_as m (marks m first + (marks m second + marks m made)) (marks m first + (marks m second + marks m made)) (named m one + named m (two ++ rest)) (named m (uses_in names test ++ (one ++ (two ++ rest))))
+    (first_automatic + before.loops) (first_automatic + (before.loops + (loops_in branch + (loops_in alternative + loops_in others)))) refl (sym (named-behind_uses m names test (one ++ (two ++ rest)) ∙ named-append m one (two ++ rest)))
+    (counted_until m (marks m first + (marks m second + marks m made)) (named m one + named m (two ++ rest)) (first_automatic + before.loops) (first_automatic + (between.loops + (loops_in alternative + loops_in others)))
+    (first_automatic + (before.loops + (loops_in branch + (loops_in alternative + loops_in others)))) (omega arith)
+    (counted_then m (marks m first) (marks m second + marks m made) (named m one) (named m (two ++ rest)) (first_automatic + before.loops) (first_automatic + between.loops) (first_automatic + (between.loops + (loops_in alternative + loops_in others)))
+    (omega arith) (omega arith) (marks_counted m names [] in_loop scope before branch first first_is)
+    (counted_two m (marks m second + marks m made) (named m two) (named m rest) between alternative others (two ++ rest) (marks m second) (marks m made) refl (named-append m two rest)
+    (marks_counted m names [] in_loop scope between alternative second second_is) (marks_counted m names block_ in_loop scope (behind alternative between) others made made_is))))
+marks_counted m names block_ in_loop _ _ _ _ (while_loop scope before test turn others cond body made cond_is body_is made_is) =
+    let uses = uses_in_condition names test in
+    let inner = occurrences names [] true turn in
     let rest = occurrences names block_ in_loop others in
-    counted_loop m n a others c.mark (loop_mark c.mark a n.loops) (marks m body) (marks m made) (named m inner) (named m rest) (one_if (is_mark (loop_mark c.mark a n.loops) m) + (marks m body + (0 + marks m made)))
-    (named m (uses ++ (inner ++ rest))) (omega arith) (omega (arith, named-append m uses (inner ++ rest), named-append m inner rest, named-condition m names (Some c))) (loop_counted m c.mark a n.loops)
-    (marks_counted m names [] true scope (one_loop_more n) a body r) (marks_counted m names block_ in_loop scope (behind a (one_loop_more n)) others made s)
-marks_counted m names block_ in_loop _ _ _ _ (do_loop scope n a c others test body made r v s) =
-    let uses = uses_in_condition names c in
-    let inner = occurrences names [] true a in
+    counted_loop m before turn others test.mark (loop_mark test.mark turn before.loops) (marks m body) (marks m made) (named m inner) (named m rest) (one_if (is_mark (loop_mark test.mark turn before.loops) m) + (marks m body + (0 + marks m made)))
+    (named m (uses ++ (inner ++ rest))) (omega arith) (omega (arith, named-append m uses (inner ++ rest), named-append m inner rest, named-condition m names (Some test))) (loop_counted m test.mark turn before.loops)
+    (marks_counted m names [] true scope (one_loop_more before) turn body body_is) (marks_counted m names block_ in_loop scope (behind turn (one_loop_more before)) others made made_is)
+marks_counted m names block_ in_loop _ _ _ _ (do_loop scope before turn test others cond body made body_is cond_is made_is) =
+    let uses = uses_in_condition names test in
+    let inner = occurrences names [] true turn in
     let rest = occurrences names block_ in_loop others in
-    counted_loop m n a others c.mark (loop_mark c.mark a n.loops) (marks m body) (marks m made) (named m inner) (named m rest) (one_if (is_mark (loop_mark c.mark a n.loops) m) + (marks m body + (0 + marks m made)))
-    (named m (inner ++ (uses ++ rest))) (omega arith) (omega (arith, named-append m inner (uses ++ rest), named-append m uses rest, named-condition m names (Some c))) (loop_counted m c.mark a n.loops)
-    (marks_counted m names [] true scope (one_loop_more n) a body r) (marks_counted m names block_ in_loop scope (behind a (one_loop_more n)) others made s)
-marks_counted m names block_ in_loop _ _ _ _ (for_loop scope n start c step a others test first next body made r v s t u) =
+    counted_loop m before turn others test.mark (loop_mark test.mark turn before.loops) (marks m body) (marks m made) (named m inner) (named m rest) (one_if (is_mark (loop_mark test.mark turn before.loops) m) + (marks m body + (0 + marks m made)))
+    (named m (inner ++ (uses ++ rest))) (omega arith) (omega (arith, named-append m inner (uses ++ rest), named-append m uses rest, named-condition m names (Some test))) (loop_counted m test.mark turn before.loops)
+    (marks_counted m names [] true scope (one_loop_more before) turn body body_is) (marks_counted m names block_ in_loop scope (behind turn (one_loop_more before)) others made made_is)
+marks_counted m names block_ in_loop _ _ _ _ (for_loop scope before start test step turn others cond first next body made first_is cond_is next_is body_is made_is) =
     let inner = names_in_for start names in
-    let scope_in = scope_in_for start n.vars scope in
+    let scope_in = scope_in_for start before.vars scope in
     let starts = occurrences names [] in_loop start in
-    let uses = uses_in_condition_option inner c in
+    let uses = uses_in_condition_option inner test in
     let steps = occurrences inner [] in_loop step in
-    let turns = occurrences inner [] true a in
+    let turns = occurrences inner [] true turn in
     let rest = occurrences names block_ in_loop others in
-    let begun = one_loop_more n in
+    let begun = one_loop_more before in
     let one = behind start begun in
     let two = behind step one in
-    let three = behind a two in
-    let own = one_if (is_mark (loop_mark (named_mark c) a n.loops) m) in
+    let three = behind turn two in
+    let own = one_if (is_mark (loop_mark (named_mark test) turn before.loops) m) in
     let until = first_automatic + (three.loops + loops_in others) in
-    let last = first_automatic + (n.loops + suc (loops_in start + (loops_in step + (loops_in a + loops_in others)))) in
+    let last = first_automatic + (before.loops + suc (loops_in start + (loops_in step + (loops_in turn + loops_in others)))) in
     let count = own + (marks m first + (marks m next + (marks m body + marks m made))) in
-    let names_ = named m (marked_option (named_mark c)) + (named m starts + (named m steps + (named m turns + named m rest))) in
+    let names_ = named m (marked_option (named_mark test)) + (named m starts + (named m steps + (named m turns + named m rest))) in
     let all = starts ++ (uses ++ (steps ++ (turns ++ rest))) in
-    counted_as m count (marks m (followed_by first (tree.Loop (loop_mark (named_mark c) a n.loops) test body next true tree.Nil)) + marks m made) names_ (named m all) (first_automatic + n.loops) last
-    (omega (arith, marks_followed m first (tree.Loop (loop_mark (named_mark c) a n.loops) test body next true tree.Nil)))
-    (omega (arith, named-append m starts (uses ++ (steps ++ (turns ++ rest))), named-append m uses (steps ++ (turns ++ rest)), named-append m steps (turns ++ rest), named-append m turns rest, named-condition m inner c))
-    (counted_until m count names_ (first_automatic + n.loops) until last (omega arith)
-    (counted_then m own (marks m first + (marks m next + (marks m body + marks m made))) (named m (marked_option (named_mark c))) (named m starts + (named m steps + (named m turns + named m rest)))
-    (first_automatic + n.loops) (first_automatic + begun.loops) until (omega arith) (omega arith) (loop_counted m (named_mark c) a n.loops)
+    counted_as m count (marks m (followed_by first (tree.Loop (loop_mark (named_mark test) turn before.loops) cond body next true tree.Nil)) + marks m made) names_ (named m all) (first_automatic + before.loops) last
+    (omega (arith, marks_followed m first (tree.Loop (loop_mark (named_mark test) turn before.loops) cond body next true tree.Nil)))
+    (omega (arith, named-append m starts (uses ++ (steps ++ (turns ++ rest))), named-append m uses (steps ++ (turns ++ rest)), named-append m steps (turns ++ rest), named-append m turns rest, named-condition m inner test))
+    (counted_until m count names_ (first_automatic + before.loops) until last (omega arith)
+    (counted_then m own (marks m first + (marks m next + (marks m body + marks m made))) (named m (marked_option (named_mark test))) (named m starts + (named m steps + (named m turns + named m rest)))
+    (first_automatic + before.loops) (first_automatic + begun.loops) until (omega arith) (omega arith) (loop_counted m (named_mark test) turn before.loops)
     (counted_then m (marks m first) (marks m next + (marks m body + marks m made)) (named m starts) (named m steps + (named m turns + named m rest)) (first_automatic + begun.loops) (first_automatic + one.loops) until
-    (omega arith) (omega arith) (marks_counted m names [] in_loop scope begun start first r)
+    (omega arith) (omega arith) (marks_counted m names [] in_loop scope begun start first first_is)
     (counted_then m (marks m next) (marks m body + marks m made) (named m steps) (named m turns + named m rest) (first_automatic + one.loops) (first_automatic + two.loops) until
-    (omega arith) (omega arith) (marks_counted m inner [] in_loop scope_in one step next s)
+    (omega arith) (omega arith) (marks_counted m inner [] in_loop scope_in one step next next_is)
     (counted_then m (marks m body) (marks m made) (named m turns) (named m rest) (first_automatic + two.loops) (first_automatic + three.loops) until
-    (omega arith) (omega arith) (marks_counted m inner [] true scope_in two a body t) (marks_counted m names block_ in_loop scope three others made u))))))
-marks_counted m names block_ in_loop _ _ _ _ (breaks scope n line others made r) = marks_counted m names block_ in_loop scope n others made r
-marks_counted m names block_ in_loop _ _ _ _ (continues scope n line others made r) = marks_counted m names block_ in_loop scope n others made r
-marks_counted m names block_ in_loop _ _ _ _ (returns scope n e others value made v r) =
+    (omega arith) (omega arith) (marks_counted m inner [] true scope_in two turn body body_is) (marks_counted m names block_ in_loop scope three others made made_is))))))
+marks_counted m names block_ in_loop _ _ _ _ (breaks scope before line others made made_is) = marks_counted m names block_ in_loop scope before others made made_is
+marks_counted m names block_ in_loop _ _ _ _ (continues scope before line others made made_is) = marks_counted m names block_ in_loop scope before others made made_is
+marks_counted m names block_ in_loop _ _ _ _ (returns scope before expr others value made value_is made_is) =
     let rest = occurrences names block_ in_loop others in
-    counted_as m (marks m made) (marks m made) (named m rest) (named m (uses_in names e ++ rest)) (first_automatic + n.loops) (first_automatic + (n.loops + loops_in others)) refl
-    (sym (named-behind_uses m names e rest)) (marks_counted m names block_ in_loop scope n others made r)
-marks_counted m names block_ in_loop _ _ _ _ (resolves.marks scope n mark others made r) =
-    let counted = marks_counted m names block_ in_loop scope n others made r in
+    counted_as m (marks m made) (marks m made) (named m rest) (named m (uses_in names expr ++ rest)) (first_automatic + before.loops) (first_automatic + (before.loops + loops_in others)) refl
+    (sym (named-behind_uses m names expr rest)) (marks_counted m names block_ in_loop scope before others made made_is)
+marks_counted m names block_ in_loop _ _ _ _ (resolves.marks scope before mark others made made_is) =
+    let counted = marks_counted m names block_ in_loop scope before others made made_is in
     record { auto = counted.auto; is = omega (arith, counted.is); once = counted.once }
-marks_counted m names block_ in_loop _ _ _ _ (block scope n a others inner made r s) =
-    let first = occurrences names [] in_loop a in
+marks_counted m names block_ in_loop _ _ _ _ (block scope before items others inner made inner_is made_is) =
+    let first = occurrences names [] in_loop items in
     let rest = occurrences names block_ in_loop others in
-    counted_two m (marks m inner + marks m made) (named m first) (named m rest) n a others (first ++ rest) (marks m inner) (marks m made) refl (named-append m first rest)
-    (marks_counted m names [] in_loop scope n a inner r) (marks_counted m names block_ in_loop scope (behind a n) others made s)
-marks_counted m names block_ in_loop _ _ _ _ (empty scope n others made r) = marks_counted m names block_ in_loop scope n others made r
+    counted_two m (marks m inner + marks m made) (named m first) (named m rest) before items others (first ++ rest) (marks m inner) (marks m made) refl (named-append m first rest)
+    (marks_counted m names [] in_loop scope before items inner inner_is) (marks_counted m names block_ in_loop scope (behind items before) others made made_is)
+marks_counted m names block_ in_loop _ _ _ _ (empty scope before others made made_is) = marks_counted m names block_ in_loop scope before others made made_is

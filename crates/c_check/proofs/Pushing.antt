@@ -24,36 +24,36 @@ joined_to-Nil (first ∷ stmts) = ap (put_in_front first) (joined_to-Nil stmts)
 
 -- what is put in front, and then behind others
 pub with_front-joined : (before now : List Stmt) (front : Statements → Statements) (others : Result Made CheckFault)
-    → ((x : Statements) → joined_to now x ≡ joined_to before (front x))
+    → ((stmts : Statements) → joined_to now stmts ≡ joined_to before (front stmts))
     → with_front (joined_to before) (with_front front others) ≡ with_front (joined_to now) others
-with_front-joined before now front (Ok others) is = ap (λ (s : Statements). Ok (made others.at s)) (sym (is others.stmts))
+with_front-joined before now front (Ok others) is = ap (λ (stmts : Statements). Ok (made others.at stmts)) (sym (is others.stmts))
 with_front-joined before now front (Err first) is = refl
 
 -- ---- declarators
 
 expression_of-zero : expression_of (Num (pos 0)) ≡ tree.Num (pos 0)
 expression_of-zero =
-    fold_out-Expr Expression expression_level (Num (pos 0)) ∙ ap (λ (y : Expr-F Expr). expression_level (map-Expr Expr Expression expression_of y)) (outs-Num (pos 0))
+    fold_out-Expr Expression expression_level (Num (pos 0)) ∙ ap (λ (shape : Expr-F Expr). expression_level (map-Expr Expr Expression expression_of shape)) (outs-Num (pos 0))
 
-begins_none : (before : List Stmt) (number : ℕ) (x : Statements) → joined_to (before ++ Set number (Num (pos 0)) ∷ []) x ≡ joined_to before (begun number None x)
-begins_none before number x =
-    joined_to-push before (Set number (Num (pos 0))) x ∙ ap (joined_to before) (front-Set number (Num (pos 0)) x ∙ ap (λ (e : Expression). tree.Set number e x) expression_of-zero)
+begins_none : (before : List Stmt) (number : ℕ) (stmts : Statements) → joined_to (before ++ Set number (Num (pos 0)) ∷ []) stmts ≡ joined_to before (begun number None stmts)
+begins_none before number stmts =
+    joined_to-push before (Set number (Num (pos 0))) stmts ∙ ap (joined_to before) (front-Set number (Num (pos 0)) stmts ∙ ap (λ (value : Expression). tree.Set number value stmts) expression_of-zero)
 
-begins_some : (before : List Stmt) (number : ℕ) (value : Expr) (x : Statements)
-    → joined_to ((before ++ Set number (Num (pos 0)) ∷ []) ++ Set number value ∷ []) x ≡ joined_to before (begun number (Some (expression_of value)) x)
-begins_some before number value x =
-    joined_to-push (before ++ Set number (Num (pos 0)) ∷ []) (Set number value) x
-    ∙ ap (joined_to (before ++ Set number (Num (pos 0)) ∷ [])) (front-Set number value x)
-    ∙ begins_none before number (tree.Set number (expression_of value) x)
+begins_some : (before : List Stmt) (number : ℕ) (value : Expr) (stmts : Statements)
+    → joined_to ((before ++ Set number (Num (pos 0)) ∷ []) ++ Set number value ∷ []) stmts ≡ joined_to before (begun number (Some (expression_of value)) stmts)
+begins_some before number value stmts =
+    joined_to-push (before ++ Set number (Num (pos 0)) ∷ []) (Set number value) stmts
+    ∙ ap (joined_to (before ++ Set number (Num (pos 0)) ∷ [])) (front-Set number value stmts)
+    ∙ begins_none before number (tree.Set number (expression_of value) stmts)
 
 declares_by : (at behind : Resolver) (declared : RawDeclared) (number : ℕ) (value : Option Expression) (before now : List Stmt)
     → declared_at at declared.var ≡ Ok behind → number ≡ length at.vars → initial_value (scope_at behind) declared.initialiser ≡ Ok value
-    → ((x : Statements) → joined_to now x ≡ joined_to before (begun number value x)) → Declares declared at behind before now
+    → ((stmts : Statements) → joined_to now stmts ≡ joined_to before (begun number value stmts)) → Declares declared at behind before now
 declares_by at behind declared number value before now declares is begins joins = record {
   by = λ declarators others.
-      ap (λ (r : Result Resolver CheckFault). with_front (joined_to before) (and_then r (λ (b : Resolver). and_then (initial_value (scope_at b) declared.initialiser)
-      (λ (v : Option Expression). with_front (begun (length at.vars) v) (declarators_at b declarators others))))) declares
-      ∙ ap (λ (r : Result (Option Expression) CheckFault). with_front (joined_to before) (and_then r (λ (v : Option Expression). with_front (begun (length at.vars) v)
+      ap (λ (answer : Result Resolver CheckFault). with_front (joined_to before) (and_then answer (λ (place : Resolver). and_then (initial_value (scope_at place) declared.initialiser)
+      (λ (value : Option Expression). with_front (begun (length at.vars) value) (declarators_at place declarators others))))) declares
+      ∙ ap (λ (answer : Result (Option Expression) CheckFault). with_front (joined_to before) (and_then answer (λ (value : Option Expression). with_front (begun (length at.vars) value)
       (declarators_at behind declarators others)))) begins
       ∙ ap (λ (n : ℕ). with_front (joined_to before) (with_front (begun n value) (declarators_at behind declarators others))) (sym is)
       ∙ with_front-joined before now (begun number value) (declarators_at behind declarators others) joins;
@@ -63,10 +63,10 @@ pub declares_plainly : (at behind : Resolver) (declared : RawDeclared) (number :
     → declared_at at declared.var ≡ Ok behind → number ≡ length at.vars → initial_value (scope_at behind) declared.initialiser ≡ Ok (option_map expression_of value)
     → value ≡ None → now ≡ before ++ Set number (Num (pos 0)) ∷ [] → Declares declared at behind before now
 declares_plainly at behind declared number value before now declares is begins plainly pushed =
-    declares_by at behind declared number None before now declares is (rw plainly at begins) (λ x. rw pushed (begins_none before number x))
+    declares_by at behind declared number None before now declares is (rw plainly at begins) (λ stmts. rw pushed (begins_none before number stmts))
 
 pub declares_begun : (at behind : Resolver) (declared : RawDeclared) (number : ℕ) (value : Option Expr) (first : Expr) (before between now : List Stmt)
     → declared_at at declared.var ≡ Ok behind → number ≡ length at.vars → initial_value (scope_at behind) declared.initialiser ≡ Ok (option_map expression_of value)
     → value ≡ Some first → between ≡ before ++ Set number (Num (pos 0)) ∷ [] → now ≡ between ++ Set number first ∷ [] → Declares declared at behind before now
 declares_begun at behind declared number value first before between now declares is begins some zeroed pushed =
-    declares_by at behind declared number (Some (expression_of first)) before now declares is (rw some at begins) (λ x. rw (pushed, zeroed) (begins_some before number first x))
+    declares_by at behind declared number (Some (expression_of first)) before now declares is (rw some at begins) (λ stmts. rw (pushed, zeroed) (begins_some before number first stmts))

@@ -16,7 +16,7 @@ abbrev var : List ℕ → Var
 var name = record { name = name; line = 1 }
 
 abbrev one : List ℕ → RawExpression → RawDeclared
-one name e = record { var = var name; initialiser = Some e }
+one name expr = record { var = var name; initialiser = Some expr }
 
 abbrev named : List ℕ → RawExpression
 named name = raw.Named name 1

@@ -20,13 +20,13 @@ pub data Occurrence : Type 0 where
 abbrev pub uses_in : Names → RawExpression → List Occurrence
 uses_in scope (raw.Num z) = []
 uses_in scope (raw.Named name line) = Use scope name line ∷ []
-uses_in scope (raw.Un op e) = uses_in scope e
-uses_in scope (raw.Bin op line e f) = uses_in scope e ++ uses_in scope f
-uses_in scope (raw.Cond c e f) = uses_in scope c ++ (uses_in scope e ++ uses_in scope f)
+uses_in scope (raw.Un op expr) = uses_in scope expr
+uses_in scope (raw.Bin op line left right) = uses_in scope left ++ uses_in scope right
+uses_in scope (raw.Cond test left right) = uses_in scope test ++ (uses_in scope left ++ uses_in scope right)
 
 abbrev pub uses_in_option : Names → Option RawExpression → List Occurrence
 uses_in_option scope None = []
-uses_in_option scope (Some e) = uses_in scope e
+uses_in_option scope (Some expr) = uses_in scope expr
 
 abbrev pub marked_option : Option ℕ → List Occurrence
 marked_option None = []
@@ -64,25 +64,25 @@ abbrev pub occurrences : Names → Names → Bool → RawStatements → List Occ
 occurrences scope block in_loop raw.Nil = []
 occurrences scope block in_loop (raw.Declare declarators others) =
     in_declarators scope block declarators ++ occurrences (with_names declarators scope) (with_names declarators block) in_loop others
-occurrences scope block in_loop (raw.Assign name line e others) =
-    Use scope name line ∷ (uses_in scope e ++ occurrences scope block in_loop others)
-occurrences scope block in_loop (raw.If c a others) =
-    uses_in scope c ++ (occurrences scope [] in_loop a ++ occurrences scope block in_loop others)
-occurrences scope block in_loop (raw.IfElse c a b others) =
-    uses_in scope c ++ (occurrences scope [] in_loop a ++ (occurrences scope [] in_loop b ++ occurrences scope block in_loop others))
-occurrences scope block in_loop (raw.While c body others) =
-    uses_in_condition scope c ++ (occurrences scope [] true body ++ occurrences scope block in_loop others)
-occurrences scope block in_loop (raw.Do body c others) =
-    occurrences scope [] true body ++ (uses_in_condition scope c ++ occurrences scope block in_loop others)
-occurrences scope block in_loop (raw.For start c step body others) =
-    occurrences scope [] in_loop start ++ (uses_in_condition_option (names_in_for start scope) c
+occurrences scope block in_loop (raw.Assign name line expr others) =
+    Use scope name line ∷ (uses_in scope expr ++ occurrences scope block in_loop others)
+occurrences scope block in_loop (raw.If test branch others) =
+    uses_in scope test ++ (occurrences scope [] in_loop branch ++ occurrences scope block in_loop others)
+occurrences scope block in_loop (raw.IfElse test branch alternative others) =
+    uses_in scope test ++ (occurrences scope [] in_loop branch ++ (occurrences scope [] in_loop alternative ++ occurrences scope block in_loop others))
+occurrences scope block in_loop (raw.While test body others) =
+    uses_in_condition scope test ++ (occurrences scope [] true body ++ occurrences scope block in_loop others)
+occurrences scope block in_loop (raw.Do body test others) =
+    occurrences scope [] true body ++ (uses_in_condition scope test ++ occurrences scope block in_loop others)
+occurrences scope block in_loop (raw.For start test step body others) =
+    occurrences scope [] in_loop start ++ (uses_in_condition_option (names_in_for start scope) test
     ++ (occurrences (names_in_for start scope) [] in_loop step ++ (occurrences (names_in_for start scope) [] true body
     ++ occurrences scope block in_loop others)))
 occurrences scope block in_loop (raw.Break line others) = Jump in_loop line ∷ occurrences scope block in_loop others
 occurrences scope block in_loop (raw.Continue line others) = Jump in_loop line ∷ occurrences scope block in_loop others
-occurrences scope block in_loop (raw.Return e others) = uses_in scope e ++ occurrences scope block in_loop others
+occurrences scope block in_loop (raw.Return expr others) = uses_in scope expr ++ occurrences scope block in_loop others
 occurrences scope block in_loop (raw.Mark mark others) = Marked mark ∷ occurrences scope block in_loop others
-occurrences scope block in_loop (raw.Block a others) = occurrences scope [] in_loop a ++ occurrences scope block in_loop others
+occurrences scope block in_loop (raw.Block items others) = occurrences scope [] in_loop items ++ occurrences scope block in_loop others
 occurrences scope block in_loop (raw.Empty others) = occurrences scope block in_loop others
 
 -- a parameter is declared as a variable without an initialiser is, in the outermost block
@@ -91,4 +91,4 @@ plain var = record { var = var; initialiser = None }
 
 -- all of a function
 abbrev pub occurrences_of : RawFunction → List Occurrence
-occurrences_of f = occurrences [] [] false (raw.Declare (map plain f.params) f.body)
+occurrences_of func = occurrences [] [] false (raw.Declare (map plain func.params) func.body)

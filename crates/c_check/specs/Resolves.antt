@@ -31,13 +31,13 @@ pub data ResolvesExpression (scope : Bindings) : RawExpression → Expression �
   constant : (z : ℤ) → ResolvesExpression scope (raw.Num z) (tree.Num z)
   variable : (name : List ℕ) (line number : ℕ) → number_of scope name ≡ Some number
       → ResolvesExpression scope (raw.Named name line) (tree.Var number)
-  unary : (op : UnOp) (e : RawExpression) (made : Expression) → ResolvesExpression scope e made
-      → ResolvesExpression scope (raw.Un op e) (tree.Un op made)
-  binary : (op : BinOp) (line : ℕ) (e f : RawExpression) (first second : Expression) → ResolvesExpression scope e first
-      → ResolvesExpression scope f second → ResolvesExpression scope (raw.Bin op line e f) (tree.Bin op first second)
-  conditional : (c e f : RawExpression) (cond first second : Expression) → ResolvesExpression scope c cond
-      → ResolvesExpression scope e first → ResolvesExpression scope f second
-      → ResolvesExpression scope (raw.Cond c e f) (tree.Cond cond first second)
+  unary : (op : UnOp) (expr : RawExpression) (made : Expression) → ResolvesExpression scope expr made
+      → ResolvesExpression scope (raw.Un op expr) (tree.Un op made)
+  binary : (op : BinOp) (line : ℕ) (left right : RawExpression) (first second : Expression) → ResolvesExpression scope left first
+      → ResolvesExpression scope right second → ResolvesExpression scope (raw.Bin op line left right) (tree.Bin op first second)
+  conditional : (test left right : RawExpression) (cond first second : Expression) → ResolvesExpression scope test cond
+      → ResolvesExpression scope left first → ResolvesExpression scope right second
+      → ResolvesExpression scope (raw.Cond test left right) (tree.Cond cond first second)
 
 -- how many variables and how many loops stand before a place of the source
 pub record Counts : Type 0 where
@@ -45,14 +45,14 @@ pub record Counts : Type 0 where
   pub loops : ℕ
 
 abbrev pub one_variable_more : Counts → Counts
-one_variable_more n = record { vars = suc n.vars; loops = n.loops }
+one_variable_more before = record { vars = suc before.vars; loops = before.loops }
 
 abbrev pub one_loop_more : Counts → Counts
-one_loop_more n = record { vars = n.vars; loops = suc n.loops }
+one_loop_more before = record { vars = before.vars; loops = suc before.loops }
 
 -- how many stand before the place behind these statements
 abbrev pub behind : RawStatements → Counts → Counts
-behind stmts n = record { vars = n.vars + length (declared_in stmts); loops = n.loops + loops_in stmts }
+behind stmts before = record { vars = before.vars + length (declared_in stmts); loops = before.loops + loops_in stmts }
 
 -- ---- marks of loops
 
@@ -97,77 +97,77 @@ scope_in_for _ number scope = scope
 -- the statements of the first list, then the second list
 abbrev pub followed_by : Statements → Statements → Statements
 followed_by tree.Nil behind = behind
-followed_by (tree.Set x e others) behind = tree.Set x e (followed_by others behind)
-followed_by (tree.If e a b others) behind = tree.If e a b (followed_by others behind)
+followed_by (tree.Set number expr others) behind = tree.Set number expr (followed_by others behind)
+followed_by (tree.If cond branch alternative others) behind = tree.If cond branch alternative (followed_by others behind)
 followed_by (tree.Loop mark cond body step test_first others) behind = tree.Loop mark cond body step test_first (followed_by others behind)
 followed_by (tree.Break others) behind = tree.Break (followed_by others behind)
 followed_by (tree.Continue others) behind = tree.Continue (followed_by others behind)
-followed_by (tree.Return e others) behind = tree.Return e (followed_by others behind)
+followed_by (tree.Return expr others) behind = tree.Return expr (followed_by others behind)
 followed_by (tree.Mark mark others) behind = tree.Mark mark (followed_by others behind)
-followed_by (tree.Block a others) behind = tree.Block a (followed_by others behind)
+followed_by (tree.Block items others) behind = tree.Block items (followed_by others behind)
 
 -- The statements are these, where so many variables and loops stand before them. What is declared in a list is in scope
 -- to its end.
 pub data Resolves : Bindings → Counts → RawStatements → Statements → Type 0 where
-  none : (scope : Bindings) (n : Counts) → Resolves scope n raw.Nil tree.Nil
+  none : (scope : Bindings) (before : Counts) → Resolves scope before raw.Nil tree.Nil
   -- 6.7: a declarator's variable becomes 0, and then the value of its initialiser, in which it is in scope.
-  declared : (scope : Bindings) (n : Counts) (others : RawStatements) (made : Statements) → Resolves scope n others made
-      → Resolves scope n (raw.Declare [] others) made
-  declares : (scope : Bindings) (n : Counts) (var : Var) (declarators : List RawDeclared) (others : RawStatements)
-      (made : Statements) → Resolves (binding var n.vars ∷ scope) (one_variable_more n) (raw.Declare declarators others) made
-      → Resolves scope n (raw.Declare (record { var = var; initialiser = None } ∷ declarators) others)
-      (tree.Set n.vars (tree.Num (pos 0)) made)
-  initialises : (scope : Bindings) (n : Counts) (var : Var) (e : RawExpression) (declarators : List RawDeclared)
+  declared : (scope : Bindings) (before : Counts) (others : RawStatements) (made : Statements) → Resolves scope before others made
+      → Resolves scope before (raw.Declare [] others) made
+  declares : (scope : Bindings) (before : Counts) (var : Var) (declarators : List RawDeclared) (others : RawStatements)
+      (made : Statements) → Resolves (binding var before.vars ∷ scope) (one_variable_more before) (raw.Declare declarators others) made
+      → Resolves scope before (raw.Declare (record { var = var; initialiser = None } ∷ declarators) others)
+      (tree.Set before.vars (tree.Num (pos 0)) made)
+  initialises : (scope : Bindings) (before : Counts) (var : Var) (expr : RawExpression) (declarators : List RawDeclared)
       (others : RawStatements) (value : Expression) (made : Statements)
-      → ResolvesExpression (binding var n.vars ∷ scope) e value
-      → Resolves (binding var n.vars ∷ scope) (one_variable_more n) (raw.Declare declarators others) made
-      → Resolves scope n (raw.Declare (record { var = var; initialiser = Some e } ∷ declarators) others)
-      (tree.Set n.vars (tree.Num (pos 0)) (tree.Set n.vars value made))
+      → ResolvesExpression (binding var before.vars ∷ scope) expr value
+      → Resolves (binding var before.vars ∷ scope) (one_variable_more before) (raw.Declare declarators others) made
+      → Resolves scope before (raw.Declare (record { var = var; initialiser = Some expr } ∷ declarators) others)
+      (tree.Set before.vars (tree.Num (pos 0)) (tree.Set before.vars value made))
   -- 6.5.16
-  assigns : (scope : Bindings) (n : Counts) (name : List ℕ) (line number : ℕ) (e : RawExpression) (others : RawStatements)
-      (value : Expression) (made : Statements) → number_of scope name ≡ Some number → ResolvesExpression scope e value
-      → Resolves scope n others made → Resolves scope n (raw.Assign name line e others) (tree.Set number value made)
+  assigns : (scope : Bindings) (before : Counts) (name : List ℕ) (line number : ℕ) (expr : RawExpression) (others : RawStatements)
+      (value : Expression) (made : Statements) → number_of scope name ≡ Some number → ResolvesExpression scope expr value
+      → Resolves scope before others made → Resolves scope before (raw.Assign name line expr others) (tree.Set number value made)
   -- 6.8.4.1
-  branches : (scope : Bindings) (n : Counts) (c : RawExpression) (a others : RawStatements) (cond : Expression)
-      (first made : Statements) → ResolvesExpression scope c cond → Resolves scope n a first
-      → Resolves scope (behind a n) others made
-      → Resolves scope n (raw.If c a others) (tree.If cond first tree.Nil made)
-  chooses : (scope : Bindings) (n : Counts) (c : RawExpression) (a b others : RawStatements) (cond : Expression)
-      (first second made : Statements) → ResolvesExpression scope c cond → Resolves scope n a first
-      → Resolves scope (behind a n) b second → Resolves scope (behind b (behind a n)) others made
-      → Resolves scope n (raw.IfElse c a b others) (tree.If cond first second made)
+  branches : (scope : Bindings) (before : Counts) (test : RawExpression) (branch others : RawStatements) (cond : Expression)
+      (first made : Statements) → ResolvesExpression scope test cond → Resolves scope before branch first
+      → Resolves scope (behind branch before) others made
+      → Resolves scope before (raw.If test branch others) (tree.If cond first tree.Nil made)
+  chooses : (scope : Bindings) (before : Counts) (test : RawExpression) (branch alternative others : RawStatements) (cond : Expression)
+      (first second made : Statements) → ResolvesExpression scope test cond → Resolves scope before branch first
+      → Resolves scope (behind branch before) alternative second → Resolves scope (behind alternative (behind branch before)) others made
+      → Resolves scope before (raw.IfElse test branch alternative others) (tree.If cond first second made)
   -- 6.8.5.1
-  while_loop : (scope : Bindings) (n : Counts) (c : RawCondition) (a others : RawStatements) (cond : Expression)
-      (body made : Statements) → ResolvesExpression scope c.cond cond → Resolves scope (one_loop_more n) a body
-      → Resolves scope (behind a (one_loop_more n)) others made
-      → Resolves scope n (raw.While c a others) (tree.Loop (loop_mark c.mark a n.loops) cond body tree.Nil true made)
+  while_loop : (scope : Bindings) (before : Counts) (test : RawCondition) (turn others : RawStatements) (cond : Expression)
+      (body made : Statements) → ResolvesExpression scope test.cond cond → Resolves scope (one_loop_more before) turn body
+      → Resolves scope (behind turn (one_loop_more before)) others made
+      → Resolves scope before (raw.While test turn others) (tree.Loop (loop_mark test.mark turn before.loops) cond body tree.Nil true made)
   -- 6.8.5.2: the variables of the body are not in scope in the condition.
-  do_loop : (scope : Bindings) (n : Counts) (a : RawStatements) (c : RawCondition) (others : RawStatements)
-      (cond : Expression) (body made : Statements) → Resolves scope (one_loop_more n) a body
-      → ResolvesExpression scope c.cond cond → Resolves scope (behind a (one_loop_more n)) others made
-      → Resolves scope n (raw.Do a c others) (tree.Loop (loop_mark c.mark a n.loops) cond body tree.Nil false made)
+  do_loop : (scope : Bindings) (before : Counts) (turn : RawStatements) (test : RawCondition) (others : RawStatements)
+      (cond : Expression) (body made : Statements) → Resolves scope (one_loop_more before) turn body
+      → ResolvesExpression scope test.cond cond → Resolves scope (behind turn (one_loop_more before)) others made
+      → Resolves scope before (raw.Do turn test others) (tree.Loop (loop_mark test.mark turn before.loops) cond body tree.Nil false made)
   -- 6.8.5.3: what the head declares is in scope in the rest of the loop, which is a block.
-  for_loop : (scope : Bindings) (n : Counts) (start : RawStatements) (c : Option RawCondition) (step a others : RawStatements)
-      (cond : Expression) (first next body made : Statements) → Resolves scope (one_loop_more n) start first
-      → ResolvesCondition (scope_in_for start n.vars scope) c cond
-      → Resolves (scope_in_for start n.vars scope) (behind start (one_loop_more n)) step next
-      → Resolves (scope_in_for start n.vars scope) (behind step (behind start (one_loop_more n))) a body
-      → Resolves scope (behind a (behind step (behind start (one_loop_more n)))) others made
-      → Resolves scope n (raw.For start c step a others)
-      (tree.Block (followed_by first (tree.Loop (loop_mark (named_mark c) a n.loops) cond body next true tree.Nil)) made)
+  for_loop : (scope : Bindings) (before : Counts) (start : RawStatements) (test : Option RawCondition) (step turn others : RawStatements)
+      (cond : Expression) (first next body made : Statements) → Resolves scope (one_loop_more before) start first
+      → ResolvesCondition (scope_in_for start before.vars scope) test cond
+      → Resolves (scope_in_for start before.vars scope) (behind start (one_loop_more before)) step next
+      → Resolves (scope_in_for start before.vars scope) (behind step (behind start (one_loop_more before))) turn body
+      → Resolves scope (behind turn (behind step (behind start (one_loop_more before)))) others made
+      → Resolves scope before (raw.For start test step turn others)
+      (tree.Block (followed_by first (tree.Loop (loop_mark (named_mark test) turn before.loops) cond body next true tree.Nil)) made)
   -- 6.8.6
-  breaks : (scope : Bindings) (n : Counts) (line : ℕ) (others : RawStatements) (made : Statements)
-      → Resolves scope n others made → Resolves scope n (raw.Break line others) (tree.Break made)
-  continues : (scope : Bindings) (n : Counts) (line : ℕ) (others : RawStatements) (made : Statements)
-      → Resolves scope n others made → Resolves scope n (raw.Continue line others) (tree.Continue made)
-  returns : (scope : Bindings) (n : Counts) (e : RawExpression) (others : RawStatements) (value : Expression)
-      (made : Statements) → ResolvesExpression scope e value → Resolves scope n others made
-      → Resolves scope n (raw.Return e others) (tree.Return value made)
-  marks : (scope : Bindings) (n : Counts) (mark : ℕ) (others : RawStatements) (made : Statements)
-      → Resolves scope n others made → Resolves scope n (raw.Mark mark others) (tree.Mark mark made)
+  breaks : (scope : Bindings) (before : Counts) (line : ℕ) (others : RawStatements) (made : Statements)
+      → Resolves scope before others made → Resolves scope before (raw.Break line others) (tree.Break made)
+  continues : (scope : Bindings) (before : Counts) (line : ℕ) (others : RawStatements) (made : Statements)
+      → Resolves scope before others made → Resolves scope before (raw.Continue line others) (tree.Continue made)
+  returns : (scope : Bindings) (before : Counts) (expr : RawExpression) (others : RawStatements) (value : Expression)
+      (made : Statements) → ResolvesExpression scope expr value → Resolves scope before others made
+      → Resolves scope before (raw.Return expr others) (tree.Return value made)
+  marks : (scope : Bindings) (before : Counts) (mark : ℕ) (others : RawStatements) (made : Statements)
+      → Resolves scope before others made → Resolves scope before (raw.Mark mark others) (tree.Mark mark made)
   -- 6.8.2
-  block : (scope : Bindings) (n : Counts) (a others : RawStatements) (inner made : Statements) → Resolves scope n a inner
-      → Resolves scope (behind a n) others made → Resolves scope n (raw.Block a others) (tree.Block inner made)
+  block : (scope : Bindings) (before : Counts) (items others : RawStatements) (inner made : Statements) → Resolves scope before items inner
+      → Resolves scope (behind items before) others made → Resolves scope before (raw.Block items others) (tree.Block inner made)
   -- 6.8.3
-  empty : (scope : Bindings) (n : Counts) (others : RawStatements) (made : Statements) → Resolves scope n others made
-      → Resolves scope n (raw.Empty others) made
+  empty : (scope : Bindings) (before : Counts) (others : RawStatements) (made : Statements) → Resolves scope before others made
+      → Resolves scope before (raw.Empty others) made

@@ -73,11 +73,11 @@ variable_in scope name line = found_or name line (number_of scope name)
 abbrev pub expression_in : Bindings → RawExpression → Result Expression CheckFault
 expression_in scope (raw.Num z) = Ok (tree.Num z)
 expression_in scope (raw.Named name line) = and_then (variable_in scope name line) (λ number. Ok (tree.Var number))
-expression_in scope (raw.Un op e) = and_then (expression_in scope e) (λ made. Ok (tree.Un op made))
-expression_in scope (raw.Bin op line e f) =
-    and_then (expression_in scope e) (λ first. and_then (expression_in scope f) (λ second. Ok (tree.Bin op first second)))
-expression_in scope (raw.Cond c e f) =
-    and_then (expression_in scope c) (λ cond. and_then (expression_in scope e) (λ first. and_then (expression_in scope f)
+expression_in scope (raw.Un op expr) = and_then (expression_in scope expr) (λ made. Ok (tree.Un op made))
+expression_in scope (raw.Bin op line left right) =
+    and_then (expression_in scope left) (λ first. and_then (expression_in scope right) (λ second. Ok (tree.Bin op first second)))
+expression_in scope (raw.Cond test left right) =
+    and_then (expression_in scope test) (λ cond. and_then (expression_in scope left) (λ first. and_then (expression_in scope right)
     (λ second. Ok (tree.Cond cond first second))))
 
 -- a condition, and what is known behind it
@@ -89,16 +89,16 @@ abbrev pub with_condition : Resolver → Expression → MadeCondition
 with_condition at cond = record { at = at; cond = cond }
 
 abbrev pub condition_at : Resolver → RawCondition → Result MadeCondition CheckFault
-condition_at at c =
-    and_then (marked_option_at at c.mark) (λ marked. and_then (expression_in (scope_at marked) c.cond) (λ cond. Ok (with_condition marked cond)))
+condition_at at test =
+    and_then (marked_option_at at test.mark) (λ marked. and_then (expression_in (scope_at marked) test.cond) (λ cond. Ok (with_condition marked cond)))
 
 abbrev pub condition_option_at : Resolver → Option RawCondition → Result MadeCondition CheckFault
 condition_option_at at None = Ok (with_condition at (tree.Num (pos 1)))
-condition_option_at at (Some c) = condition_at at c
+condition_option_at at (Some test) = condition_at at test
 
 abbrev pub initial_value : Bindings → Option RawExpression → Result (Option Expression) CheckFault
 initial_value scope None = Ok None
-initial_value scope (Some e) = and_then (expression_in scope e) (λ value. Ok (Some value))
+initial_value scope (Some expr) = and_then (expression_in scope expr) (λ value. Ok (Some value))
 
 -- ---- statements
 
@@ -132,38 +132,38 @@ declarators_at at (declared ∷ declarators) others =
 abbrev pub statements_at : Resolver → Bool → RawStatements → Result Made CheckFault
 statements_at at in_loop raw.Nil = Ok (made at tree.Nil)
 statements_at at in_loop (raw.Declare declarators others) = declarators_at at declarators (λ behind. statements_at behind in_loop others)
-statements_at at in_loop (raw.Assign name line e others) =
-    and_then (variable_in (scope_at at) name line) (λ number. and_then (expression_in (scope_at at) e)
+statements_at at in_loop (raw.Assign name line expr others) =
+    and_then (variable_in (scope_at at) name line) (λ number. and_then (expression_in (scope_at at) expr)
     (λ value. with_front (tree.Set number value) (statements_at at in_loop others)))
-statements_at at in_loop (raw.If c a others) =
-    and_then (expression_in (scope_at at) c) (λ cond. and_then (closed (statements_at (entered at) in_loop a))
+statements_at at in_loop (raw.If test branch others) =
+    and_then (expression_in (scope_at at) test) (λ cond. and_then (closed (statements_at (entered at) in_loop branch))
     (λ first. with_front (tree.If cond first.stmts tree.Nil) (statements_at first.at in_loop others)))
-statements_at at in_loop (raw.IfElse c a b others) =
-    and_then (expression_in (scope_at at) c) (λ cond. and_then (closed (statements_at (entered at) in_loop a))
-    (λ first. and_then (closed (statements_at (entered first.at) in_loop b))
+statements_at at in_loop (raw.IfElse test branch alternative others) =
+    and_then (expression_in (scope_at at) test) (λ cond. and_then (closed (statements_at (entered at) in_loop branch))
+    (λ first. and_then (closed (statements_at (entered first.at) in_loop alternative))
     (λ second. with_front (tree.If cond first.stmts second.stmts) (statements_at second.at in_loop others))))
-statements_at at in_loop (raw.While c a others) =
-    and_then (condition_at (with_loop at) c) (λ cond. and_then (closed (statements_at (entered cond.at) true a))
-    (λ body. with_front (tree.Loop (loop_mark c.mark a at.loops) cond.cond body.stmts tree.Nil true) (statements_at body.at in_loop others)))
-statements_at at in_loop (raw.Do a c others) =
-    and_then (closed (statements_at (entered (with_loop at)) true a)) (λ body. and_then (condition_at body.at c)
-    (λ cond. with_front (tree.Loop (loop_mark c.mark a at.loops) cond.cond body.stmts tree.Nil false) (statements_at cond.at in_loop others)))
-statements_at at in_loop (raw.For start c step a others) =
-    and_then (statements_at (entered (with_loop at)) in_loop start) (λ first. and_then (condition_option_at first.at c)
+statements_at at in_loop (raw.While test turn others) =
+    and_then (condition_at (with_loop at) test) (λ cond. and_then (closed (statements_at (entered cond.at) true turn))
+    (λ body. with_front (tree.Loop (loop_mark test.mark turn at.loops) cond.cond body.stmts tree.Nil true) (statements_at body.at in_loop others)))
+statements_at at in_loop (raw.Do turn test others) =
+    and_then (closed (statements_at (entered (with_loop at)) true turn)) (λ body. and_then (condition_at body.at test)
+    (λ cond. with_front (tree.Loop (loop_mark test.mark turn at.loops) cond.cond body.stmts tree.Nil false) (statements_at cond.at in_loop others)))
+statements_at at in_loop (raw.For start test step turn others) =
+    and_then (statements_at (entered (with_loop at)) in_loop start) (λ first. and_then (condition_option_at first.at test)
     (λ cond. and_then (closed (statements_at (entered cond.at) in_loop step))
-    (λ next. and_then (closed (statements_at (entered next.at) true a))
-    (λ body. with_front (tree.Block (followed_by first.stmts (tree.Loop (loop_mark (named_mark c) a at.loops) cond.cond body.stmts next.stmts true tree.Nil)))
+    (λ next. and_then (closed (statements_at (entered next.at) true turn))
+    (λ body. with_front (tree.Block (followed_by first.stmts (tree.Loop (loop_mark (named_mark test) turn at.loops) cond.cond body.stmts next.stmts true tree.Nil)))
     (statements_at (left body.at) in_loop others)))))
 statements_at at in_loop (raw.Break line others) =
     and_then (unless_fault (fault_of at.marks (Jump in_loop line)) at) (λ behind. with_front tree.Break (statements_at behind in_loop others))
 statements_at at in_loop (raw.Continue line others) =
     and_then (unless_fault (fault_of at.marks (Jump in_loop line)) at) (λ behind. with_front tree.Continue (statements_at behind in_loop others))
-statements_at at in_loop (raw.Return e others) =
-    and_then (expression_in (scope_at at) e) (λ value. with_front (tree.Return value) (statements_at at in_loop others))
+statements_at at in_loop (raw.Return expr others) =
+    and_then (expression_in (scope_at at) expr) (λ value. with_front (tree.Return value) (statements_at at in_loop others))
 statements_at at in_loop (raw.Mark mark others) =
     and_then (marked_at at mark) (λ behind. with_front (tree.Mark mark) (statements_at behind in_loop others))
-statements_at at in_loop (raw.Block a others) =
-    and_then (closed (statements_at (entered at) in_loop a))
+statements_at at in_loop (raw.Block items others) =
+    and_then (closed (statements_at (entered at) in_loop items))
     (λ inner. with_front (tree.Block inner.stmts) (statements_at inner.at in_loop others))
 statements_at at in_loop (raw.Empty others) = statements_at at in_loop others
 
@@ -177,7 +177,7 @@ abbrev pub nothing_known : Resolver
 nothing_known = record { table = nothing_in_scope; vars = []; marks = []; loops = 0 }
 
 abbrev pub function_at : RawFunction → Result Made CheckFault
-function_at f = and_then (parameters_at nothing_known f.params) (λ behind. statements_at behind false f.body)
+function_at func = and_then (parameters_at nothing_known func.params) (λ behind. statements_at behind false func.body)
 
 -- ---- words of the code's contracts
 

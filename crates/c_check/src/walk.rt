@@ -165,13 +165,13 @@ fn loop_mark(named: Option<u32>, body: &RawStmt, before: u32) -> Option<u32>
 }
 
 /// A `break` or `continue` stands here.
-fn jump(at: &Resolver, in_loop: bool, line: u32) -> Result<(), CheckFault>
+fn jump(at: &Resolver, in_loop: bool, line: u32, stmt: Stmt) -> Result<Stmt, CheckFault>
     ensures { MatchResult result
-        (λ _. fault_of at.now.marks (Jump in_loop line) ≡ None)
+        (λ made. (fault_of at.now.marks (Jump in_loop line) ≡ None) × (made ≡ stmt))
         (λ first. fault_of at.now.marks (Jump in_loop line) ≡ Some first) }
 {
     if in_loop {
-        Ok(())
+        Ok(stmt)
     } else {
         Err(CheckFault::Outside { line })
     }
@@ -421,61 +421,38 @@ fn item(
         (λ _. Pushes in_loop (raw_put_in_front stmt.now) at.old at.new made.old made.new)
         (FailsIn in_loop (raw_put_in_front stmt.now) at.old) }
 {
-    match stmt {
+    let found = match stmt {
         RawStmt::Declare(list) => {
             declarators(alloc, at, list.as_slice(), made)?;
-            Ok(())
+            return Ok(());
         }
-        RawStmt::Assign(name, line, value) => {
-            let found = assignment(alloc, at, name, *line, value)?;
-            put(made, found)
-        }
+        RawStmt::Assign(name, line, value) => assignment(alloc, at, name, *line, value)?,
         RawStmt::If(cond, first, second) => {
             let cond = expression(alloc, &at.table, cond)?;
             let first = block(alloc, at, in_loop, first.get())?;
             let second = block_or_none(alloc, at, in_loop, second)?;
-            put(made, Stmt::If(cond, first, second))
+            Stmt::If(cond, first, second)
         }
-        RawStmt::While(cond, body) => {
-            let found = while_loop(alloc, at, in_loop, cond, body.get())?;
-            put(made, found)
-        }
-        RawStmt::Do(body, cond) => {
-            let found = do_loop(alloc, at, in_loop, body.get(), cond)?;
-            put(made, found)
-        }
-        RawStmt::For(start, cond, next, body) => {
+        RawStmt::While(cond, body) => while_loop(alloc, at, in_loop, cond, body.get())?,
+        RawStmt::Do(body, cond) => do_loop(alloc, at, in_loop, body.get(), cond)?,
+        RawStmt::For(start, cond, step, body) => {
             let before = at.begin_loop()?;
             at.enter(alloc)?;
             let mut head = one_or_none(alloc, at, in_loop, start)?;
             let found = condition_option(alloc, at, cond)?;
-            let next = block_or_none(alloc, at, in_loop, next)?;
+            let next = block_or_none(alloc, at, in_loop, step)?;
             let inner = block(alloc, at, true, body.get())?;
             let mark = loop_mark(found.mark, body.get(), before);
             put(&mut head, looped(mark, found.cond, inner, next))?;
             at.leave(alloc);
-            put(made, Stmt::Block(head))
+            Stmt::Block(head)
         }
-        RawStmt::Break(line) => {
-            jump(at, in_loop, *line)?;
-            put(made, Stmt::Break)
-        }
-        RawStmt::Continue(line) => {
-            jump(at, in_loop, *line)?;
-            put(made, Stmt::Continue)
-        }
-        RawStmt::Return(value) => {
-            let value = expression(alloc, &at.table, value)?;
-            put(made, Stmt::Return(value))
-        }
-        RawStmt::Mark(mark) => {
-            let mark = at.mark(*mark)?;
-            put(made, Stmt::Mark(mark))
-        }
-        RawStmt::Block(list) => {
-            let found = compound(alloc, at, in_loop, list.as_slice())?;
-            put(made, found)
-        }
-        RawStmt::Empty => Ok(()),
-    }
+        RawStmt::Break(line) => jump(at, in_loop, *line, Stmt::Break)?,
+        RawStmt::Continue(line) => jump(at, in_loop, *line, Stmt::Continue)?,
+        RawStmt::Return(value) => Stmt::Return(expression(alloc, &at.table, value)?),
+        RawStmt::Mark(mark) => Stmt::Mark(at.mark(*mark)?),
+        RawStmt::Block(list) => compound(alloc, at, in_loop, list.as_slice())?,
+        RawStmt::Empty => return Ok(()),
+    };
+    put(made, found)
 }

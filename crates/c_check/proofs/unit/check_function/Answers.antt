@@ -15,34 +15,34 @@ returns-in_err-found c =
 
 pub overflow_cast-len : goal.overflow_cast-len
 overflow_cast-len c =
-    let f = raw_function_of c.args.func.now in
+    let func = raw_function_of c.args.func.now in
     let few : length c.in_ok-found.found.vars ≤ 64 = omega (arith, c.len-count.ensures, c.if-count-gt-VARIABLES.false) in
-    let parameters = few_parameters f c.in_ok-found.found.vars (statements_of c.in_ok-found.found.body) c.requires.shaped c.in_ok-found.ensures few in
+    let parameters = few_parameters func c.in_ok-found.found.vars (statements_of c.in_ok-found.found.body) c.requires.shaped c.in_ok-found.ensures few in
     omega (arith, c.len.ensures, parameters)
 
 pub new-requires : goal.new-requires
 new-requires c =
-    let f = raw_function_of c.args.func.now in
+    let func = raw_function_of c.args.func.now in
     let few : length c.in_ok-found.found.vars ≤ 64 = omega (arith, c.len-count.ensures, c.if-count-gt-VARIABLES.false) in
     let made = function c.in_ok-name.name c.len.result c.in_ok-vars.vars.items c.in_ok-body.body.items in
-    is_function f made
-    (checked_by f c.in_ok-found.found.vars (statements_of c.in_ok-found.found.body) made c.requires.shaped c.in_ok-found.ensures few
+    is_function func made
+    (checked_by func c.in_ok-found.found.vars (statements_of c.in_ok-found.found.body) made c.requires.shaped c.in_ok-found.ensures few
     c.in_ok-name.ensures c.len.ensures c.in_ok-vars.ensures.same (ap statements_of c.in_ok-body.ensures.same)) c.requires.shaped
 
 pub returns : goal.returns
 returns c =
-    let f = raw_function_of c.args.func.now in
+    let func = raw_function_of c.args.func.now in
     let few : length c.in_ok-found.found.vars ≤ 64 = omega (arith, c.len-count.ensures, c.if-count-gt-VARIABLES.false) in
     let made = function c.in_ok-name.name c.len.result c.in_ok-vars.vars.items c.in_ok-body.body.items in
     rw c.new.ensures
-    (checked_by f c.in_ok-found.found.vars (statements_of c.in_ok-found.found.body) made c.requires.shaped c.in_ok-found.ensures few
+    (checked_by func c.in_ok-found.found.vars (statements_of c.in_ok-found.found.body) made c.requires.shaped c.in_ok-found.ensures few
     c.in_ok-name.ensures c.len.ensures c.in_ok-vars.ensures.same (ap statements_of c.in_ok-body.ensures.same))
 
 pub returns-then-count-gt-VARIABLES : goal.returns-then-count-gt-VARIABLES
 returns-then-count-gt-VARIABLES c =
-    let f = raw_function_of c.args.func.now in
+    let func = raw_function_of c.args.func.now in
     elim c.match-many.branch [
-      | in-Some w ↦ rw w.result-is (many_by f c.in_ok-found.found.vars (statements_of c.in_ok-found.found.body) w.in-Some.count c.requires.shaped c.in_ok-found.ensures
+      | in-Some w ↦ rw w.result-is (many_by func c.in_ok-found.found.vars (statements_of c.in_ok-found.found.body) w.in-Some.count c.requires.shaped c.in_ok-found.ensures
           (omega (arith, c.len-count.ensures, c.if-count-gt-VARIABLES.true)) (w.in-Some.ensures ∙ c.len-count.ensures))
       | in-None w ↦ rw w.result-is tt
     ]

@@ -14,7 +14,7 @@ returns-in-Some c =
     let found : slot_of (slots_of blocks) c.args.name.now ≡ Some c.in-Some.slot.now =
     sym (c.self.invariant.current c.args.name.now)
     ∙ subst (λ (name : List ℕ). get_by_text c.self.inside.newest name ≡ Some c.in-Some.slot.now) c.text.ensures (sym value ∙ ap option_copied c.in-Some.is) in
-    rw (← c.self.view_is) (sym (number_of_slot c.args.name.now blocks ∙ ap (option_map (λ (s : Slot). s.number)) found))
+    rw (← c.self.view_is) (sym (number_of_slot c.args.name.now blocks ∙ ap (option_map (λ (some_slot : Slot). some_slot.number)) found))
 
 pub returns-in-None : goal.returns-in-None
 returns-in-None c =
@@ -23,4 +23,4 @@ returns-in-None c =
     let found : slot_of (slots_of blocks) c.args.name.now ≡ None =
     sym (c.self.invariant.current c.args.name.now)
     ∙ subst (λ (name : List ℕ). get_by_text c.self.inside.newest name ≡ None) c.text.ensures (sym value ∙ ap option_copied c.in-None.is) in
-    rw (← c.self.view_is) (sym (number_of_slot c.args.name.now blocks ∙ ap (option_map (λ (s : Slot). s.number)) found))
+    rw (← c.self.view_is) (sym (number_of_slot c.args.name.now blocks ∙ ap (option_map (λ (some_slot : Slot). some_slot.number)) found))
