@@ -18,7 +18,8 @@ use Rattle.elimination.specs.Laws.{IsRefuted}
 use Rattle.elimination.proofs.Keeping.{Holding}
 use Rattle.elimination.proofs.Deciding.{has_point}
 use Rattle.elimination.proofs.Making.{IsMade, all_made}
-use Rattle.elimination.proofs.Narrowness.{Anything, AreNarrow, all_narrow}
+use Rattle.elimination.proofs.Lists.{Anything}
+use Rattle.elimination.proofs.Narrowness.{AreNarrow, all_narrow}
 
 -- what stands where the elimination ends
 abbrev ended : List Row → ℕ → Result (List Combination) Stop

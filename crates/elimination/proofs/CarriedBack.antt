@@ -55,7 +55,7 @@ module _ (numbers : List ℤ) (d : ℤ) (j : ℕ) (inside : j < length numbers) 
   -- a row without the column keeps its value, k times
   flat : (k y : ℤ) → pos 0 <ℤ k → (row : Combination) → is_zero (entry j row) ≡ true → Meets numbers d row.row → HoldsAfter k y row
   flat k y positive row no_column met =
-      rw (zero_is (entry j row) no_column) (subst (Allows row.row.equality) (sym (flat_step k (value numbers d row) (get_or numbers j (pos 0)) y)) (allows_multiple row.row.equality k (value numbers d row) positive met))
+      rw (zero_is (entry j row) no_column) (subst (Allows row.row.equality) (sym (flat_step k (value numbers d row) (get_or numbers j (pos 0)) y)) (allows_multiple row.row.equality k (value numbers d row) (omega (arith, ints)) met))
 
   flats : (k y : ℤ) → pos 0 <ℤ k → (rows : List Combination) → MeetsEach numbers d (without j rows) → AllByRecursion (HoldsAfter k y) (without j rows)
   flats k y positive rows met =

@@ -17,11 +17,11 @@ use Rattle.elimination.specs.Column.{projected}
 use Rattle.elimination.specs.Joining.{primitive, has_no_variable, list_of}
 use Rattle.elimination.specs.Eliminated.{initial, eliminate, answer_of, eliminated}
 use Rattle.elimination.specs.Laws.{HasPoint}
-use Rattle.elimination.proofs.Lists.{all_weaker}
+use Rattle.elimination.proofs.Lists.{Anything, all_weaker}
 use Rattle.elimination.proofs.Points.{MeetsEach, entry-combined, sign-mul, zero_is, size_of_negative}
 use Rattle.elimination.proofs.Primitive.{entry-primitive}
 use Rattle.elimination.proofs.PointsOfLists.{HasWidePoint, columns_back, eliminate_err, list_of_back}
-use Rattle.elimination.proofs.Keeping.{Holding, Joins, list_of_holds, Steps, projected_has}
+use Rattle.elimination.proofs.Keeping.{Holding, Joins, new_list_holds, Steps, projected_has}
 
 -- ---- columns that are gone, where those before j are eliminated of n
 
@@ -74,22 +74,18 @@ gone_steps n j = record {
       has_lower.0 has_upper.0;
 }
 
-abbrev NothingOf : List ℤ → Type 0
-NothingOf multipliers = Unit {0}
-
-gone_joins : (n j : ℕ) (row : Combination) → HasGone n j row → Joins (IsLeft n j) NothingOf (primitive row)
+gone_joins : (n j : ℕ) (row : Combination) → HasGone n j row → Joins (IsLeft n j) Anything (primitive row)
 gone_joins n j row has_gone = record {
   kept = λ narrow variable. ((λ i gone. entry-primitive i row (has_gone i gone)), variable);
   failed = λ narrow no_variable fails. tt;
 }
 
-column_gone : (cap n j : ℕ) (rows : List Combination) → AllByRecursion (IsLeft n j) rows → Holding (IsLeft n (suc j)) NothingOf (list_of cap (projected j rows))
+column_gone : (cap n j : ℕ) (rows : List Combination) → AllByRecursion (IsLeft n j) rows → Holding (IsLeft n (suc j)) Anything (list_of cap (projected j rows))
 column_gone cap n j rows all =
-    list_of_holds (IsLeft n (suc j)) NothingOf cap (projected j rows)
-    (all_weaker (HasGone n (suc j)) (λ row. Joins (IsLeft n (suc j)) NothingOf (primitive row)) (λ row has. gone_joins n (suc j) row has) (projected j rows)
-    (projected_has j (IsLeft n j) (HasGone n (suc j)) (gone_steps n j) rows all))
+    new_list_holds (HasGone n (suc j)) (IsLeft n (suc j)) Anything (gone_joins n (suc j)) cap (projected j rows)
+    (projected_has j (IsLeft n j) (HasGone n (suc j)) (gone_steps n j) rows all)
 
-eliminate_gone : (cap n left j : ℕ) (rows : Result (List Combination) Stop) (out : List Combination) → Holding (IsLeft n j) NothingOf rows
+eliminate_gone : (cap n left j : ℕ) (rows : Result (List Combination) Stop) (out : List Combination) → Holding (IsLeft n j) Anything rows
     → eliminate cap left j rows ≡ Ok out → AllByRecursion (IsLeft n (j + left)) out
 eliminate_gone cap n zero j (Err stop) out holds e = cc
 eliminate_gone cap n zero j (Ok rows) out holds e =
@@ -125,10 +121,10 @@ last_point n out all = record {
 -- ---- the given rows
 
 initial_gone : (n before : ℕ) (rows : List Row) → AllByRecursion (λ row. length row.coefs ≡ n) rows
-    → AllByRecursion (λ row. Joins (IsLeft n 0) NothingOf (primitive row)) (initial before rows)
+    → AllByRecursion (HasGone n 0) (initial before rows)
 initial_gone n before [] lengths = tt
 initial_gone n before (row ∷ rows) lengths = (
-  gone_joins n 0 _ (λ i gone. ⊎_elim (λ (below : i < 0). absurd (omega arith)) (λ (past : n ≤ i). get_or_past row.coefs i (pos 0) (omega (arith, lengths.0))) gone),
+  λ i gone. ⊎_elim (λ (below : i < 0). absurd (omega arith)) (λ (past : n ≤ i). get_or_past row.coefs i (pos 0) (omega (arith, lengths.0))) gone,
   initial_gone n (suc before) rows lengths.1,
 )
 
@@ -137,7 +133,7 @@ meets_initial numbers d before [] met = tt
 meets_initial numbers d before (row ∷ rows) met = (met.0, meets_initial numbers d (suc before) rows met.1)
 
 first_point : (cap n : ℕ) (rows : List Row) (start : Result (List Combination) Stop) (out : List Combination) → list_of cap (initial 0 rows) ≡ start
-    → Holding (IsLeft n 0) NothingOf start → eliminate cap n 0 start ≡ Ok out → HasPoint rows
+    → Holding (IsLeft n 0) Anything start → eliminate cap n 0 start ≡ Ok out → HasPoint rows
 first_point cap n rows (Err stop) out is holds ends = absurd (eliminate_err cap n 0 stop out ends)
 first_point cap n rows (Ok first) out is holds ends =
     let all : 0 + n ≡ n = omega arith in
@@ -157,7 +153,7 @@ answered_point : (cap n : ℕ) (rows : List Row) (ended : Result (List Combinati
 answered_point cap n rows (Err (Contradiction multipliers)) is e lengths = cc
 answered_point cap n rows (Err (AtLimit limit)) is e lengths = cc
 answered_point cap n rows (Ok out) is e lengths =
-    first_point cap n rows (list_of cap (initial 0 rows)) out refl (list_of_holds (IsLeft n 0) NothingOf cap (initial 0 rows) (initial_gone n 0 rows lengths)) is
+    first_point cap n rows (list_of cap (initial 0 rows)) out refl (new_list_holds (HasGone n 0) (IsLeft n 0) Anything (gone_joins n 0) cap (initial 0 rows) (initial_gone n 0 rows lengths)) is
 
 few_point : (test : Bool) (rows : List Row) (cap : ℕ)
     → cond test (answer_of (eliminate cap (columns_of rows) 0 (list_of cap (initial 0 rows)))) (Err ManyRows) ≡ Ok NotRefutable

@@ -1,5 +1,5 @@
 -- The given rows join a list, columns are eliminated, and an answer stands at the end.
-use Rattle.std.proofs.Common.{◌≡◌, ℕ, zero, suc, ◌+◌, ◌-◌, ◌<◌, List, ◌∷◌, ◌++◌, arith, refl, sym, ◌∙◌, ap, subst, length, get_or, drop, replicate, Result, Ok, Err}
+use Rattle.std.proofs.Common.{◌≡◌, ℕ, zero, suc, ◌+◌, ◌-◌, ◌<◌, List, ◌∷◌, ◌++◌, arith, sym, ◌∙◌, ap, subst, length, get_or, drop, replicate, Result, Ok}
 use Rattle.std.specs.Prelude.{pos}
 use Rattle.std.specs.List.{AllByRecursion}
 use Rattle.std.proofs.lemmas.List.{drop_more}
@@ -9,15 +9,13 @@ use Rattle.lin_terms.specs.declared.row.Row.{Row}
 use Rattle.lin_terms.specs.Row.{IsNarrow, IsNarrowRow}
 use Rattle.elimination.specs.declared.answer.Answer.{Answer}
 use Rattle.elimination.specs.declared.answer.Limit.{Limit}
-use Rattle.elimination.specs.declared.answer.Limit.TheVariants.{WideRow, ManyRows, Memory}
 use Rattle.elimination.specs.declared.answer.Stop.{Stop}
-use Rattle.elimination.specs.declared.answer.Stop.TheVariants.{Contradiction, AtLimit}
 use Rattle.elimination.specs.Combination.{Combination}
 use Rattle.elimination.specs.Column.{projected}
 use Rattle.elimination.specs.Joining.{joined, joined_each, list_of}
 use Rattle.elimination.specs.Eliminated.{given_row, initial, eliminate}
 use Rattle.elimination.specs.Working.{IsNarrowCombination, IsSmallCombination}
-use Rattle.elimination.specs.Outcome.{IsOutcome, IsAnswer}
+use Rattle.elimination.specs.Outcome.{IsAnswer}
 use Rattle.elimination.proofs.Lists.{all_append}
 use Rattle.elimination.proofs.Sizes.{small_combination}
 
@@ -52,18 +50,6 @@ given_joins cap i given row rows target inside is so_far =
     ∙ ap (λ n. joined_each cap (joined cap rows (given_row i (length given - i - 1) row)) (initial n later)) next) ∙ so_far
 
 -- ---- columns
-
-eliminate_stopped : (cap left j : ℕ) (stop : Stop) → eliminate cap left j (Err stop) ≡ Err stop
-eliminate_stopped cap zero j stop = refl
-eliminate_stopped cap (suc left) j stop = refl
-
--- where a list is stopped, so is the elimination
-pub stops_there : (cap left j : ℕ) (first target : Result (List Combination) Stop) (stop : Stop) (after last : List Combination)
-    → eliminate cap left j first ≡ target → IsOutcome first (Err stop) after → IsOutcome target (Err stop) last
-stops_there cap left j first target (Contradiction multipliers) after last e is = sym e ∙ ap (λ t. eliminate cap left j t) is ∙ eliminate_stopped cap left j (Contradiction multipliers)
-stops_there cap left j first target (AtLimit WideRow) after last e is = sym e ∙ ap (λ t. eliminate cap left j t) is ∙ eliminate_stopped cap left j (AtLimit WideRow)
-stops_there cap left j first target (AtLimit ManyRows) after last e is = sym e ∙ ap (λ t. eliminate cap left j t) is ∙ eliminate_stopped cap left j (AtLimit ManyRows)
-stops_there cap left j first target (AtLimit Memory) after last e is = tt
 
 -- one more column
 pub next_column : (cap columns j : ℕ) (rows : List Combination) (target : Result (List Combination) Stop) → j < columns

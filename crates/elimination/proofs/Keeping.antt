@@ -1,17 +1,18 @@
 -- What a list keeps of the rows that join it, and what rows without a column keep of those that have it.
-use Rattle.std.proofs.Common.{◌≡◌, ℕ, zero, suc, Bool, true, false, cond, List, [], ◌∷◌, ◌++◌, map, refl, length, Option, Some, None, Result, Ok, Err}
+use Rattle.std.proofs.Common.{◌≡◌, ℕ, zero, suc, true, false, cond, List, [], ◌∷◌, ◌++◌, map, refl, length, Option, Some, None, Result, Ok, Err}
 use Rattle.std.specs.Prelude.{ℤ, neg_ℤ, ◌*ℤ◌, int_lt, nat_le}
 use Rattle.std.specs.List.{AllByRecursion}
+use Rattle.std.proofs.lemmas.Bool.{cond_both}
 use Rattle.elimination.specs.declared.answer.Limit.{Limit}
 use Rattle.elimination.specs.declared.answer.Limit.TheVariants.{WideRow, ManyRows, Memory}
 use Rattle.elimination.specs.declared.answer.Stop.{Stop}
 use Rattle.elimination.specs.declared.answer.Stop.TheVariants.{Contradiction, AtLimit}
 use Rattle.elimination.specs.Combination.{Combination, entry, is_zero, is_positive, is_negative, sign, size, combined}
 use Rattle.elimination.specs.Column.{is_pivot, behind, pivot_of, reduced, paired, without, lower_bounds, upper_bounds, pairs, projected_by, projected}
-use Rattle.elimination.specs.Joining.{numbers_of, primitive, is_wide, has_no_variable, allows, turned, judged, is_parallel, tighter, placed, added, counted, joined, joined_each, list_of}
+use Rattle.elimination.specs.Joining.{numbers_of, primitive, is_wide, has_no_variable, allows, turned, judged, is_parallel, tighter, placed, added, counted, admitted, joined, joined_each, list_of}
 use Rattle.elimination.specs.Eliminated.{eliminate}
-use Rattle.elimination.proofs.Lists.{all_by, all_weaker, all_append, all_map, kept}
-use Rattle.elimination.proofs.Pivots.{Picked, and_not, none_picked, IsLowerBound, IsUpperBound, all_lower_bounds, all_upper_bounds}
+use Rattle.elimination.proofs.Lists.{all_by, all_weaker, all_append, all_map, all_filter}
+use Rattle.elimination.proofs.Pivots.{Picked, pivot_parts, none_picked, IsLowerBound, IsUpperBound, all_lower_bounds, all_upper_bounds}
 
 -- ---- joining
 
@@ -22,23 +23,17 @@ IsOfMethod ManyRows = Unit {0}
 IsOfMethod Memory = ⊥
 
 module _ (P : Combination → Type 0) (R : List ℤ → Type 0) where
-  tighter_has : (test : Bool) (earlier row : Combination) → P earlier → P row → P (cond test row earlier)
-  tighter_has true earlier row has_earlier has_row = has_row
-  tighter_has false earlier row has_earlier has_row = has_earlier
-
-  placed_step : (test : Bool) (earlier row : Combination) (rows : List Combination) → P row → AllByRecursion P (earlier ∷ rows)
-      → AllByRecursion P (placed rows row) → AllByRecursion P (cond test (tighter earlier row ∷ rows) (earlier ∷ placed rows row))
-  placed_step true earlier row rows has all later = (tighter_has (int_lt row.row.constant earlier.row.constant) earlier row all.0 has, all.1)
-  placed_step false earlier row rows has all later = (all.0, later)
-
   all_placed : (rows : List Combination) (row : Combination) → AllByRecursion P rows → P row → AllByRecursion P (placed rows row)
   all_placed [] row all has = (has, tt)
-  all_placed (earlier ∷ rows) row all has = placed_step (is_parallel earlier row) earlier row rows has all (all_placed rows row all.1 has)
+  all_placed (earlier ∷ rows) row all has =
+      let tighter_has = cond_both (int_lt row.row.constant earlier.row.constant) row earlier P (λ less. has) (λ not_less. all.0) in
+      cond_both (is_parallel earlier row) (tighter earlier row ∷ rows) (earlier ∷ placed rows row) (AllByRecursion P)
+      (λ parallel. (tighter_has, all.1)) (λ other. (all.0, all_placed rows row all.1 has))
 
-  all_added : (test : Bool) (rows : List Combination) (row : Combination) → AllByRecursion P rows → P row
-      → AllByRecursion P (cond test (rows ++ row ∷ []) (placed rows row))
-  all_added true rows row all has = all_append P rows (row ∷ []) all (has, tt)
-  all_added false rows row all has = all_placed rows row all has
+  all_added : (rows : List Combination) (row : Combination) → AllByRecursion P rows → P row → AllByRecursion P (added rows row)
+  all_added rows row all has =
+      cond_both row.row.equality (rows ++ row ∷ []) (placed rows row) (AllByRecursion P)
+      (λ equality. all_append P rows (row ∷ []) all (has, tt)) (λ inequality. all_placed rows row all has)
 
   -- the rows of a list have P, and multipliers that stop it have R
   abbrev pub Holding : Result (List Combination) Stop → Type 0
@@ -52,44 +47,37 @@ module _ (P : Combination → Type 0) (R : List ℤ → Type 0) where
     pub failed : is_wide (numbers_of row) ≡ false → has_no_variable row.row.coefs ≡ true → allows row.row.equality row.row.constant ≡ false
         → R (turned row.row.constant row.multipliers)
 
-  counted_holds : (test : Bool) (rows : List Combination) → AllByRecursion P rows → Holding (cond test (Ok rows) (Err (AtLimit ManyRows)))
-  counted_holds true rows all = all
-  counted_holds false rows all = tt
+  judged_holds : (rows : List Combination) (row : Combination) → is_wide (numbers_of row) ≡ false → has_no_variable row.row.coefs ≡ true
+      → AllByRecursion P rows → Joins row → Holding (judged rows row)
+  judged_holds rows row narrow no_variable all joins =
+      cond_both (allows row.row.equality row.row.constant) (Ok rows) (Err (Contradiction (turned row.row.constant row.multipliers))) Holding
+      (λ allowed. all) (λ fails. joins.failed narrow no_variable fails)
 
-  judged_holds : (test : Bool) (rows : List Combination) (row : Combination) → is_wide (numbers_of row) ≡ false → has_no_variable row.row.coefs ≡ true
-      → allows row.row.equality row.row.constant ≡ test → AllByRecursion P rows → Joins row
-      → Holding (cond test (Ok rows) (Err (Contradiction (turned row.row.constant row.multipliers))))
-  judged_holds true rows row narrow no_variable is all joins = all
-  judged_holds false rows row narrow no_variable is all joins = joins.failed narrow no_variable is
+  counted_holds : (cap : ℕ) (rows : List Combination) → AllByRecursion P rows → Holding (counted cap rows)
+  counted_holds cap rows all = cond_both (nat_le (length rows) cap) (Ok rows) (Err (AtLimit ManyRows)) Holding (λ few. all) (λ many. tt)
 
-  kept_holds : (test : Bool) (cap : ℕ) (rows : List Combination) (row : Combination) → is_wide (numbers_of row) ≡ false
-      → has_no_variable row.row.coefs ≡ test → AllByRecursion P rows → Joins row → Holding (cond test (judged rows row) (counted cap (added rows row)))
-  kept_holds true cap rows row narrow is all joins =
-      judged_holds (allows row.row.equality row.row.constant) rows row narrow is refl all joins
-  kept_holds false cap rows row narrow is all joins =
-      counted_holds (nat_le (length (added rows row)) cap) (added rows row) (all_added row.row.equality rows row all (joins.kept narrow is))
-
-  admitted_holds : (test : Bool) (cap : ℕ) (rows : List Combination) (row : Combination) → is_wide (numbers_of row) ≡ test → AllByRecursion P rows → Joins row
-      → Holding (cond test (Err (AtLimit WideRow)) (cond (has_no_variable row.row.coefs) (judged rows row) (counted cap (added rows row))))
-  admitted_holds true cap rows row is all joins = tt
-  admitted_holds false cap rows row is all joins = kept_holds (has_no_variable row.row.coefs) cap rows row is refl all joins
+  admitted_holds : (cap : ℕ) (rows : List Combination) (row : Combination) → AllByRecursion P rows → Joins row → Holding (admitted cap rows row)
+  admitted_holds cap rows row all joins =
+      let by_variables : Result (List Combination) Stop = cond (has_no_variable row.row.coefs) (judged rows row) (counted cap (added rows row)) in
+      cond_both (is_wide (numbers_of row)) (Err (AtLimit WideRow)) by_variables Holding (λ wide. tt)
+      (λ narrow. cond_both (has_no_variable row.row.coefs) (judged rows row) (counted cap (added rows row)) Holding
+      (λ no_variable. judged_holds rows row narrow no_variable all joins)
+      (λ variable. counted_holds cap (added rows row) (all_added rows row all (joins.kept narrow variable))))
 
   joined_each_holds : (cap : ℕ) (before : Result (List Combination) Stop) (later : List Combination) → Holding before
       → AllByRecursion (λ row. Joins (primitive row)) later → Holding (joined_each cap before later)
   joined_each_holds cap (Err stop) later holds joins = holds
   joined_each_holds cap (Ok rows) [] holds joins = holds
   joined_each_holds cap (Ok rows) (row ∷ later) holds joins =
-      joined_each_holds cap (joined cap rows row) later
-      (admitted_holds (is_wide (numbers_of (primitive row))) cap rows (primitive row) refl holds joins.0) joins.1
+      joined_each_holds cap (joined cap rows row) later (admitted_holds cap rows (primitive row) holds joins.0) joins.1
 
-  pub list_of_holds : (cap : ℕ) (rows : List Combination) → AllByRecursion (λ row. Joins (primitive row)) rows → Holding (list_of cap rows)
-  list_of_holds cap rows joins = joined_each_holds cap (Ok []) rows tt joins
+-- a new list of rows that have A
+pub new_list_holds : (A P : Combination → Type 0) (R : List ℤ → Type 0) → ((row : Combination) → A row → Joins P R (primitive row))
+    → (cap : ℕ) (rows : List Combination) → AllByRecursion A rows → Holding P R (list_of cap rows)
+new_list_holds A P R joins cap rows all =
+    joined_each_holds P R cap (Ok []) rows tt (all_weaker A (λ row. Joins P R (primitive row)) joins rows all)
 
 -- ---- rows without a column
-
-filter_keeps : (test : Bool) (A B : Combination → Type 0) (row : Combination) (rows : List Combination) → A row → (test ≡ true → A row → B row)
-    → AllByRecursion B rows → AllByRecursion B (cond test (row ∷ rows) rows)
-filter_keeps test A B row rows has passes all = kept test B row rows (λ is. passes is has) all
 
 -- what the pivot and the other rows have
 abbrev PickedHas : ℕ → (Combination → Type 0) → Option Picked → Type 0
@@ -101,16 +89,11 @@ behind_has : (j : ℕ) (A : Combination → Type 0) (row : Combination) (found :
 behind_has j A row None has later = tt
 behind_has j A row (Some picked) has later = (later.0, later.1, later.2, (has, later.3))
 
-pivot_step : (j : ℕ) (A : Combination → Type 0) (test : Bool) (row : Combination) (rows : List Combination) (found : Option Picked)
-    → (test ≡ true → (row.row.equality ≡ true) × (is_zero (entry j row) ≡ false)) → A row → AllByRecursion A rows
-    → PickedHas j A found → PickedHas j A (cond test (Some (row, rows)) (behind row found))
-pivot_step j A true row rows found is has all later = let both = is refl in (has, both.0, both.1, all)
-pivot_step j A false row rows found is has all later = behind_has j A row found has later
-
 pivot_has : (j : ℕ) (A : Combination → Type 0) (rows : List Combination) → AllByRecursion A rows → PickedHas j A (pivot_of j rows)
 pivot_has j A [] all = tt
 pivot_has j A (row ∷ rows) all =
-    pivot_step j A (is_pivot j row) row rows (pivot_of j rows) (and_not row.row.equality (is_zero (entry j row))) all.0 all.1 (pivot_has j A rows all.1)
+    cond_both (is_pivot j row) (Some (row, rows)) (behind row (pivot_of j rows)) (PickedHas j A)
+    (λ is. let both = pivot_parts j row is in (all.0, both.0, both.1, all.1)) (λ other. behind_has j A row (pivot_of j rows) all.0 (pivot_has j A rows all.1))
 
 -- the three ways in which a row without the column is made lead from A to B
 pub record Steps (j : ℕ) (A B : Combination → Type 0) : Type 0 where
@@ -121,13 +104,12 @@ pub record Steps (j : ℕ) (A B : Combination → Type 0) : Type 0 where
 
 module _ (j : ℕ) (A B : Combination → Type 0) (steps : Steps j A B) where
   without_has : (rows : List Combination) → AllByRecursion A rows → AllByRecursion B (without j rows)
-  without_has [] all = tt
-  without_has (row ∷ rows) all = filter_keeps (is_zero (entry j row)) A B row (without j rows) all.0 (steps.flat row) (without_has rows all.1)
+  without_has rows all = all_filter A B (λ row. is_zero (entry j row)) steps.flat rows all
 
-  reduced_has : (test : Bool) (pivot row : Combination) → is_zero (entry j row) ≡ test → pivot.row.equality ≡ true → A pivot → A row
-      → B (cond test row (combined (size (entry j pivot)) row (neg_ℤ (sign (entry j pivot) *ℤ entry j row)) pivot))
-  reduced_has true pivot row is equality has_pivot has = steps.flat row is has
-  reduced_has false pivot row is equality has_pivot has = steps.reduce pivot row equality has_pivot has
+  reduced_has : (pivot row : Combination) → pivot.row.equality ≡ true → A pivot → A row → B (reduced j pivot row)
+  reduced_has pivot row equality has_pivot has =
+      cond_both (is_zero (entry j row)) row (combined (size (entry j pivot)) row (neg_ℤ (sign (entry j pivot) *ℤ entry j row)) pivot) B
+      (λ is. steps.flat row is has) (λ other. steps.reduce pivot row equality has_pivot has)
 
   abbrev LowerHas : Combination → Type 0
   LowerHas row = A row × IsLowerBound j row
@@ -143,12 +125,10 @@ module _ (j : ℕ) (A B : Combination → Type 0) (steps : Steps j A B) where
       (pairs_have lowers uppers all_lower.1 all_upper)
 
   lowers_have : (rows : List Combination) → AllByRecursion A rows → AllByRecursion A (lower_bounds j rows)
-  lowers_have [] all = tt
-  lowers_have (row ∷ rows) all = filter_keeps (is_positive (entry j row)) A A row (lower_bounds j rows) all.0 (λ is has. has) (lowers_have rows all.1)
+  lowers_have rows all = all_filter A A (λ row. is_positive (entry j row)) (λ row is has. has) rows all
 
   uppers_have : (rows : List Combination) → AllByRecursion A rows → AllByRecursion A (upper_bounds j rows)
-  uppers_have [] all = tt
-  uppers_have (row ∷ rows) all = filter_keeps (is_negative (entry j row)) A A row (upper_bounds j rows) all.0 (λ is has. has) (uppers_have rows all.1)
+  uppers_have rows all = all_filter A A (λ row. is_negative (entry j row)) (λ row is has. has) rows all
 
   projected_by_has : (rows : List Combination) (found : Option Picked) → pivot_of j rows ≡ found → PickedHas j A found → AllByRecursion A rows
       → AllByRecursion B (projected_by j rows found)
@@ -161,7 +141,7 @@ module _ (j : ℕ) (A B : Combination → Type 0) (steps : Steps j A B) where
       (all_by A (IsLowerBound j) LowerHas (λ row x y. (x, y)) lowers (lowers_have rows all) (all_lower_bounds j rows none))
       (all_by A (IsUpperBound j) UpperHas (λ row x y. (x, y)) uppers (uppers_have rows all) (all_upper_bounds j rows none)))
   projected_by_has rows (Some picked) is has all =
-      all_map A B (reduced j picked.0) (λ row x. reduced_has (is_zero (entry j row)) picked.0 row refl has.1 has.0 x) picked.1 has.3
+      all_map A B (reduced j picked.0) (λ row x. reduced_has picked.0 row has.1 has.0 x) picked.1 has.3
 
   pub projected_has : (rows : List Combination) → AllByRecursion A rows → AllByRecursion B (projected j rows)
   projected_has rows all = projected_by_has rows (pivot_of j rows) refl (pivot_has j A rows all) all
@@ -170,11 +150,8 @@ module _ (j : ℕ) (A B : Combination → Type 0) (steps : Steps j A B) where
 
 -- what each step keeps stands to the end
 module _ (P : Combination → Type 0) (R : List ℤ → Type 0) (joins : (row : Combination) → P row → Joins P R (primitive row)) (steps : (j : ℕ) → Steps j P P) where
-  pub new_list_holds : (cap : ℕ) (rows : List Combination) → AllByRecursion P rows → Holding P R (list_of cap rows)
-  new_list_holds cap rows all = list_of_holds P R cap rows (all_weaker P (λ row. Joins P R (primitive row)) joins rows all)
-
   pub eliminate_holds : (cap left j : ℕ) (rows : Result (List Combination) Stop) → Holding P R rows → Holding P R (eliminate cap left j rows)
   eliminate_holds cap zero j rows holds = holds
   eliminate_holds cap (suc left) j (Err stop) holds = holds
   eliminate_holds cap (suc left) j (Ok rows) holds =
-      eliminate_holds cap left (suc j) (list_of cap (projected j rows)) (new_list_holds cap (projected j rows) (projected_has j P P (steps j) rows holds))
+      eliminate_holds cap left (suc j) (list_of cap (projected j rows)) (new_list_holds P P R joins cap (projected j rows) (projected_has j P P (steps j) rows holds))

@@ -1,4 +1,5 @@
 pub mod Lists
+pub mod Found
 pub mod Points
 pub mod Best
 pub mod Pivots

@@ -1,11 +1,21 @@
 -- Facts of each element of a list.
-use Rattle.std.proofs.Common.{◌≡◌, Bool, true, false, cond, List, [], ◌∷◌, ◌++◌, map, refl}
+use Rattle.std.proofs.Common.{◌≡◌, Bool, true, List, [], ◌∷◌, ◌++◌, map}
+use Rattle.std.specs.Prelude.{filter}
 use Rattle.std.specs.List.{AllByRecursion}
+use Rattle.std.proofs.lemmas.Bool.{cond_both}
 
 pub all_by : {X : Type 0} (A B C : X → Type 0) → ((x : X) → A x → B x → C x) → (xs : List X)
     → AllByRecursion A xs → AllByRecursion B xs → AllByRecursion C xs
 all_by A B C both [] all_a all_b = tt
 all_by A B C both (x ∷ xs) all_a all_b = (both x all_a.0 all_b.0, all_by A B C both xs all_a.1 all_b.1)
+
+-- nothing is said of an element
+abbrev pub Anything : {X : Type 0} → X → Type 0
+Anything x = Unit {0}
+
+pub all_anything : {X : Type 0} (xs : List X) → AllByRecursion Anything xs
+all_anything [] = tt
+all_anything (x ∷ xs) = (tt, all_anything xs)
 
 pub all_weaker : {X : Type 0} (A C : X → Type 0) → ((x : X) → A x → C x) → (xs : List X) → AllByRecursion A xs → AllByRecursion C xs
 all_weaker A C weaker [] all = tt
@@ -32,8 +42,10 @@ pub all_of_map : {X Y : Type 0} (A : Y → Type 0) (f : X → Y) (xs : List X) �
 all_of_map A f [] all = tt
 all_of_map A f (x ∷ xs) all = (all.0, all_of_map A f xs all.1)
 
--- an element that stays where it passes a test
-pub kept : {X : Type 0} (test : Bool) (A : X → Type 0) (x : X) (xs : List X) → (test ≡ true → A x) → AllByRecursion A xs
-    → AllByRecursion A (cond test (x ∷ xs) xs)
-kept true A x xs passes all = (passes refl, all)
-kept false A x xs passes all = all
+-- what holds of the elements that pass a test
+pub all_filter : {X : Type 0} (A B : X → Type 0) (test : X → Bool) → ((x : X) → test x ≡ true → A x → B x) → (xs : List X)
+    → AllByRecursion A xs → AllByRecursion B (filter test xs)
+all_filter A B test passes [] all = tt
+all_filter A B test passes (x ∷ xs) all =
+    let later = all_filter A B test passes xs all.1 in
+    cond_both (test x) (x ∷ filter test xs) (filter test xs) (AllByRecursion B) (λ is. (passes x is all.0, later)) (λ is. later)

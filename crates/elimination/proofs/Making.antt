@@ -1,25 +1,26 @@
 -- Each row is what its multipliers make of the given rows; so the multipliers of a contradiction refute these.
 use Rattle.std.proofs.Common.{◌≡◌, ℕ, zero, suc, Bool, true, false, List, [], ◌∷◌, ◌++◌, map, arith, refl, sym, ◌∙◌, ap, subst, length, length-append, append_assoc, get_or, replicate}
-use Rattle.std.specs.Prelude.{ℤ, pos, negsuc, neg_ℤ, ◌+ℤ◌, ◌*ℤ◌, ◌-ℤ◌, ◌≤ℤ◌}
+use Prim.Native.Nat.{◌∣◌}
+use Rattle.std.specs.Prelude.{unsigned_abs, ℤ, pos, negsuc, neg_ℤ, ◌+ℤ◌, ◌*ℤ◌, ◌-ℤ◌, ◌≤ℤ◌}
 use Rattle.std.specs.Bool.{OnFalse}
 use Rattle.std.specs.List.{AllByRecursion, AllZip}
 use Rattle.std.proofs.lemmas.Int.{ints}
+use Rattle.std.proofs.lemmas.Nat.Gcd.{dvd-zero}
 use Rattle.lin_terms.specs.declared.row.Row.{Row}
 use Rattle.lin_terms.specs.Vectors.{dot, plus, scaled}
 use Rattle.lin_terms.specs.Row.{columns_of}
 use Rattle.lin_terms.specs.Divisor.{floor_div}
-use Rattle.lin_terms.proofs.Ring.{as_dif, same_dif, difs}
+use Rattle.lin_terms.proofs.Ring.{as_dif, same_dif, difs, mul-minus}
 use Rattle.lin_terms.proofs.Signs.{nonneg_add, nonneg_mul, zero_factor}
-use Rattle.lin_terms.proofs.Dots.{dot-plus, dot-scaled}
-use Rattle.lin_terms.proofs.FormLemmas.{dot-replicate}
+use Rattle.lin_terms.proofs.Dots.{zero_entries, dot-replicate}
+use Rattle.lin_terms.proofs.Entries.{get_or_all}
 use Rattle.lin_terms.proofs.Divisors.{exact_quotient, dot-quotients}
 use Rattle.farkas_check.specs.Refutes.{column, constants, MayMultiply, Refutes}
 use Rattle.elimination.specs.Combination.{Combination, entry, is_zero, is_positive, sign, size, combined}
-use Rattle.elimination.specs.Joining.{divided, primitive, has_no_variable, allows, turned, list_of}
+use Rattle.elimination.specs.Joining.{divided, primitive, allows, turned, list_of}
 use Rattle.elimination.specs.Eliminated.{initial, eliminate}
-use Rattle.elimination.proofs.Points.{entry-combined, zero_is}
-use Rattle.elimination.proofs.Primitive.{IsDivisor, divisor_of, get_or-quotients, get_or_divides}
-use Rattle.elimination.proofs.PointsOfLists.{and_true}
+use Rattle.elimination.proofs.Points.{dot-sum, entry-combined, zero_is}
+use Rattle.elimination.proofs.Primitive.{IsDivisor, divisor_of, get_or-quotients}
 use Rattle.elimination.proofs.Keeping.{Holding, Joins, Steps, new_list_holds, eliminate_holds}
 
 -- ---- what it means that multipliers make a row
@@ -43,10 +44,6 @@ pub record IsMade (given : List Row) (row : Combination) : Type 0 where
   signs : AreMadeSigns row.row.equality given row.multipliers
 
 -- ---- a sum of two rows
-
-dot-sum : (k : ℤ) (xs : List ℤ) (l : ℤ) (ys zs : List ℤ) → dot (plus (scaled k xs) (scaled l ys)) zs ≡ (k *ℤ dot xs zs) +ℤ (l *ℤ dot ys zs)
-dot-sum k xs l ys zs =
-    dot-plus (scaled k xs) (scaled l ys) zs ∙ ap (λ t. t +ℤ dot (scaled l ys) zs) (dot-scaled k xs zs) ∙ ap (λ t. (k *ℤ dot xs zs) +ℤ t) (dot-scaled l ys zs)
 
 -- how two multipliers at an inequality add up
 abbrev Mixes : Bool → Bool → ℤ → ℤ → Type 0
@@ -114,9 +111,6 @@ made_steps given j = record {
 
 -- ---- a primitive row
 
-minus_step : (g a b : ℤ) → g *ℤ (a -ℤ b) ≡ (g *ℤ a) -ℤ (g *ℤ b)
-minus_step g a b = rw (as_dif g, as_dif a, as_dif b) (simp difs (same_dif _ _ _ _ (omega arith)))
-
 minus_same : (a b : ℤ) → a ≡ b → a -ℤ b ≡ pos 0
 minus_same a b e = omega (arith, ints)
 
@@ -126,7 +120,7 @@ same_minus a b e = omega (arith, ints)
 -- a positive factor is cancelled
 cancelled : (n : ℕ) (a b : ℤ) → pos (suc n) *ℤ a ≡ pos (suc n) *ℤ b → a ≡ b
 cancelled n a b e =
-    same_minus a b (zero_factor n (a -ℤ b) (minus_step (pos (suc n)) a b ∙ minus_same (pos (suc n) *ℤ a) (pos (suc n) *ℤ b) e))
+    same_minus a b (zero_factor n (a -ℤ b) (mul-minus (pos (suc n)) a b ∙ minus_same (pos (suc n) *ℤ a) (pos (suc n) *ℤ b) e))
 
 divided_sign : (n : ℕ) (made equality : Bool) (m : ℤ) → IsMadeSign made equality m → IsMadeSign made equality (floor_div m (suc n))
 divided_sign n made true m sign = tt
@@ -147,7 +141,7 @@ made_divided given row n divisor made =
     record {
       columns = λ j. cancelled n (dot quotients (column j given)) (entry j (divided (suc n) row))
           (dot-quotients n row.multipliers (column j given) divisor.multipliers ∙ made.columns j
-          ∙ sym (ap (λ t. pos (suc n) *ℤ t) (get_or-quotients n row.row.coefs j) ∙ exact_quotient n (entry j row) (get_or_divides (suc n) row.row.coefs j divisor.coefs)));
+          ∙ sym (ap (λ t. pos (suc n) *ℤ t) (get_or-quotients n row.row.coefs j) ∙ exact_quotient n (entry j row) (get_or_all (λ (x : ℤ). suc n ∣ unsigned_abs x) row.row.coefs j (pos 0) (dvd-zero (suc n)) divisor.coefs)));
       constant = cancelled n (dot quotients (constants given)) (floor_div row.row.constant (suc n))
           (dot-quotients n row.multipliers (constants given) divisor.multipliers ∙ made.constant ∙ sym (exact_quotient n row.row.constant divisor.constant));
       signs = divided_signs n row.row.equality given row.multipliers made.signs;
@@ -167,11 +161,6 @@ dot-negated : (ms zs : List ℤ) → dot (map neg_ℤ ms) zs ≡ neg_ℤ (dot ms
 dot-negated [] zs = refl
 dot-negated (m ∷ ms) [] = refl
 dot-negated (m ∷ ms) (z ∷ zs) = rw (dot-negated ms zs) (negated_step m z (dot ms zs))
-
-entry_none : (coefs : List ℤ) (j : ℕ) → has_no_variable coefs ≡ true → get_or coefs j (pos 0) ≡ pos 0
-entry_none [] j e = refl
-entry_none (c ∷ coefs) zero e = zero_is c (and_true (is_zero c) (has_no_variable coefs) e).0
-entry_none (c ∷ coefs) (suc j) e = entry_none coefs j (and_true (is_zero c) (has_no_variable coefs) e).1
 
 plain_sign : (made equality : Bool) (m : ℤ) → IsMadeSign made equality m → OnFalse equality (pos 0 ≤ℤ m)
 plain_sign made true m sign = tt
@@ -223,7 +212,7 @@ made_joins given row made =
     record {
       kept = λ narrow variable. all;
       failed = λ narrow no_variable fails.
-          contradicted given joins.multipliers (λ j. all.columns j ∙ entry_none joins.row.coefs j no_variable) joins.row.equality joins.row.constant all.signs all.constant fails;
+          contradicted given joins.multipliers (λ j. all.columns j ∙ zero_entries is_zero zero_is joins.row.coefs no_variable j) joins.row.equality joins.row.constant all.signs all.constant fails;
     }
 
 -- ---- the given rows
@@ -272,4 +261,4 @@ initial_made given front (row ∷ rows) before all count = (
 pub all_made : (rows : List Row) (cap : ℕ) → Holding (IsMade rows) (Refutes rows) (eliminate cap (columns_of rows) 0 (list_of cap (initial 0 rows)))
 all_made rows cap =
     eliminate_holds (IsMade rows) (Refutes rows) (made_joins rows) (made_steps rows) cap (columns_of rows) 0 (list_of cap (initial 0 rows))
-    (new_list_holds (IsMade rows) (Refutes rows) (made_joins rows) (made_steps rows) cap (initial 0 rows) (initial_made rows [] rows 0 refl refl))
+    (new_list_holds (IsMade rows) (IsMade rows) (Refutes rows) (made_joins rows) cap (initial 0 rows) (initial_made rows [] rows 0 refl refl))

@@ -3,7 +3,7 @@ use Rattle.std.proofs.Common.{◌≡◌, ◌⊎◌, ◌≢◌, ℕ, suc, ◌+◌
 use Rattle.std.specs.Prelude.{ℤ, pos, ◌+ℤ◌, ◌*ℤ◌, All}
 use Rattle.std.proofs.lemmas.List.Elements.{All-tail}
 use Rattle.std.proofs.lemmas.Int.{ints}
-use Rattle.std.proofs.lemmas.Bool.Decides.{nat_tests}
+use Rattle.std.proofs.lemmas.Bool.{cond_both, eqb-true, eqb-false, eq-eqb}
 use Rattle.lin_terms.specs.Row.{IsNarrow}
 use Rattle.lin_terms.proofs.Ring.{as_dif, same_dif, difs, dif_pos}
 use Rattle.elimination.specs.declared.multipliers.Multiplier.{Multiplier}
@@ -24,20 +24,11 @@ pub rising_higher : (low high top : ℕ) (entries : List Multiplier) → IsRisin
 rising_higher low high top [] rising higher = omega arith
 rising_higher low high top (first ∷ entries) rising higher = (rising.0, rising_higher (suc first.row) high top entries rising.1 higher)
 
-same_row : (n m : ℕ) → eqb n m ≡ true → n ≡ m
-same_row n m e = grind (arith, nat_tests)
-
-other_row : (n m : ℕ) → eqb n m ≡ false → n ≢ m
-other_row n m e = grind (arith, nat_tests)
-
-own_row : (n : ℕ) → eqb n n ≡ true
-own_row n = grind (arith, nat_tests)
-
 behind_case : (test : Bool) (from count row : ℕ) (entry : Multiplier) (entries : List Multiplier) → eqb entry.row row ≡ test
     → IsRising from count (entry ∷ entries) → row ≤ entry.row → IsRising (suc row) count (cond test entries (entry ∷ entries))
-behind_case true from count row entry entries is rising before = subst (λ n. IsRising (suc n) count entries) (same_row entry.row row is) rising.1
+behind_case true from count row entry entries is rising before = subst (λ n. IsRising (suc n) count entries) (eqb-true entry.row row is) rising.1
 behind_case false from count row entry entries is rising before =
-    let other = other_row entry.row row is in
+    let other = eqb-false entry.row row is in
     let less : suc row ≤ entry.row = omega (arith, other) in (less, rising.1)
 
 pub rising_behind : (from count row : ℕ) (entries : List Multiplier) → IsRising from count entries → row ≤ first_row count entries → row < count
@@ -55,7 +46,7 @@ taken_case : (test : Bool) (entry : Multiplier) (entries : List Multiplier) (row
     → cond (eqb entry.row other) entry.value (pos 0) +ℤ at entries other
     ≡ cond (eqb row other) (cond test entry.value (pos 0)) (pos 0) +ℤ at (cond test entries (entry ∷ entries)) other
 taken_case true entry entries row other is =
-    ap (λ n. cond (eqb n other) entry.value (pos 0) +ℤ at entries other) (same_row entry.row row is)
+    ap (λ n. cond (eqb n other) entry.value (pos 0) +ℤ at entries other) (eqb-true entry.row row is)
 taken_case false entry entries row other is =
     rw (no_front (eqb row other)) (omega (arith, ints))
 
@@ -113,15 +104,12 @@ next_below from count (p ∷ ps) qs ps_rising qs_rising some =
 
 length-behind : (row : ℕ) (entries : List Multiplier) → length (behind_row row entries) ≤ length entries
 length-behind row [] = omega arith
-length-behind row (entry ∷ entries) = by_test (eqb entry.row row)
-  where
-    by_test : (test : Bool) → length (cond test entries (entry ∷ entries)) ≤ suc (length entries)
-    by_test true = omega arith
-    by_test false = omega arith
+length-behind row (entry ∷ entries) =
+    cond_both (eqb entry.row row) entries (entry ∷ entries) (λ left. length left ≤ suc (length entries)) (λ is. omega arith) (λ other. omega arith)
 
 length-taken : (row : ℕ) (entry : Multiplier) (entries : List Multiplier) → row ≡ entry.row → length (behind_row row (entry ∷ entries)) ≡ length entries
 length-taken row entry entries is =
-    ap (λ t. length (cond t entries (entry ∷ entries))) (ap (λ n. eqb entry.row n) is ∙ own_row entry.row)
+    ap (λ t. length (cond t entries (entry ∷ entries))) (ap (λ n. eqb entry.row n) is ∙ eq-eqb entry.row entry.row refl)
 
 pub shorter : (from count row : ℕ) (ps qs : List Multiplier) → row ≡ next_row count ps qs → IsRising from count ps → IsRising from count qs
     → (ps ≢ []) ⊎ (qs ≢ []) → length (behind_row row ps) + length (behind_row row qs) < length ps + length qs
@@ -156,8 +144,7 @@ added_last row value before = record {
 }
 
 nothing_more : (test : Bool) (sum : ℤ) → sum ≡ sum +ℤ cond test (pos 0) (pos 0)
-nothing_more true sum = omega (arith, ints)
-nothing_more false sum = omega (arith, ints)
+nothing_more test sum = rw (no_front test) (omega (arith, ints))
 
 pub added_nothing : (row : ℕ) (value : ℤ) (before : List Multiplier) → value ≡ pos 0 → IsAdded row value before before
 added_nothing row value before is = rw is (record {
@@ -172,11 +159,9 @@ AreNarrowEntries entries = All (λ entry. IsNarrow entry.value) entries
 
 pub narrow_behind : (row : ℕ) (entries : List Multiplier) → AreNarrowEntries entries → AreNarrowEntries (behind_row row entries)
 narrow_behind row [] narrow = narrow
-narrow_behind row (entry ∷ entries) narrow = by_test (eqb entry.row row)
-  where
-    by_test : (test : Bool) → AreNarrowEntries (cond test entries (entry ∷ entries))
-    by_test true = All-tail (λ (e : Multiplier). IsNarrow e.value) entry entries narrow
-    by_test false = narrow
+narrow_behind row (entry ∷ entries) narrow =
+    cond_both (eqb entry.row row) entries (entry ∷ entries) AreNarrowEntries
+    (λ is. All-tail (λ (e : Multiplier). IsNarrow e.value) entry entries narrow) (λ other. narrow)
 
 pub merging_step : (k l : ℤ) (count row : ℕ) (target : ℕ → ℤ) (made after ps qs : List Multiplier) (value : ℤ) → IsMerging k l count target made ps qs
     → row ≡ next_row count ps qs → (ps ≢ []) ⊎ (qs ≢ []) → value ≡ (k *ℤ front_of row ps) +ℤ (l *ℤ front_of row qs) → IsAdded row value made after

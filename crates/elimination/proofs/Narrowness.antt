@@ -1,20 +1,17 @@
 -- The multipliers of a contradiction are narrow.
-use Rattle.std.proofs.Common.{◌≡◌, ℕ, ◌<◌, ◌^◌, Bool, true, false, cond, List, [], ◌∷◌, map, arith, refl}
-use Rattle.std.specs.Prelude.{ℤ, neg_ℤ, ◌||◌, nat_le, unsigned_abs}
+use Rattle.std.proofs.Common.{◌≡◌, ℕ, ◌<◌, ◌^◌, false, List, [], ◌∷◌, map, arith}
+use Rattle.std.specs.Prelude.{ℤ, neg_ℤ, nat_le, unsigned_abs}
 use Rattle.std.specs.List.{AllByRecursion}
 use Rattle.std.proofs.lemmas.Int.{ints}
+use Rattle.std.proofs.lemmas.Bool.{or_parts, cond_both}
 use Rattle.std.proofs.lemmas.Bool.Decides.{nat_tests}
 use Rattle.lin_terms.specs.declared.row.Row.{Row}
 use Rattle.lin_terms.specs.Row.{IsNarrow, columns_of}
 use Rattle.elimination.specs.Combination.{Combination, is_positive}
 use Rattle.elimination.specs.Joining.{numbers_of, primitive, is_wide, list_of}
 use Rattle.elimination.specs.Eliminated.{initial, eliminate}
-use Rattle.elimination.proofs.Lists.{all_back}
+use Rattle.elimination.proofs.Lists.{Anything, all_anything, all_map, all_back}
 use Rattle.elimination.proofs.Keeping.{Holding, Joins, Steps, new_list_holds, eliminate_holds}
-
-or_false : (a b : Bool) → (a || b) ≡ false → (a ≡ false) × (b ≡ false)
-or_false true b e = cc
-or_false false b e = (refl, e)
 
 not_wide : (n : ℕ) → nat_le (2 ^ 56) n ≡ false → n < 2 ^ 56
 not_wide n e = grind (arith, nat_tests)
@@ -22,27 +19,17 @@ not_wide n e = grind (arith, nat_tests)
 pub narrow_numbers : (numbers : List ℤ) → is_wide numbers ≡ false → AllByRecursion IsNarrow numbers
 narrow_numbers [] e = tt
 narrow_numbers (x ∷ numbers) e =
-    let both = or_false (nat_le (2 ^ 56) (unsigned_abs x)) (is_wide numbers) e in
+    let both = or_parts (nat_le (2 ^ 56) (unsigned_abs x)) (is_wide numbers) e in
     (not_wide (unsigned_abs x) both.0, narrow_numbers numbers both.1)
 
 narrow_negated : (numbers : List ℤ) → AllByRecursion IsNarrow numbers → AllByRecursion IsNarrow (map neg_ℤ numbers)
-narrow_negated [] narrow = tt
-narrow_negated (x ∷ numbers) narrow = (one x narrow.0, narrow_negated numbers narrow.1)
+narrow_negated numbers narrow = all_map IsNarrow IsNarrow neg_ℤ one numbers narrow
   where
-    one : (z : ℤ) → unsigned_abs z < 2 ^ 56 → unsigned_abs (neg_ℤ z) < 2 ^ 56
+    one : (z : ℤ) → IsNarrow z → IsNarrow (neg_ℤ z)
     one z small = omega (arith, ints)
-
-narrow_turned : (test : Bool) (multipliers : List ℤ) → AllByRecursion IsNarrow multipliers
-    → AllByRecursion IsNarrow (cond test (map neg_ℤ multipliers) multipliers)
-narrow_turned true multipliers narrow = narrow_negated multipliers narrow
-narrow_turned false multipliers narrow = narrow
 
 abbrev pub AreNarrow : List ℤ → Type 0
 AreNarrow multipliers = AllByRecursion IsNarrow multipliers
-
--- nothing is said of a row
-abbrev pub Anything : Combination → Type 0
-Anything row = Unit {0}
 
 narrow_joins : (row : Combination) → Anything row → Joins Anything AreNarrow (primitive row)
 narrow_joins row anything =
@@ -50,7 +37,9 @@ narrow_joins row anything =
     record {
       kept = λ narrow variable. tt;
       failed = λ narrow no_variable fails.
-          narrow_turned (is_positive joins.row.constant) joins.multipliers (all_back IsNarrow joins.row.coefs joins.multipliers (narrow_numbers (numbers_of joins) narrow).1);
+          let multipliers = all_back IsNarrow joins.row.coefs joins.multipliers (narrow_numbers (numbers_of joins) narrow).1 in
+          cond_both (is_positive joins.row.constant) (map neg_ℤ joins.multipliers) joins.multipliers AreNarrow
+          (λ positive. narrow_negated joins.multipliers multipliers) (λ other. multipliers);
     }
 
 any_steps : (j : ℕ) → Steps j Anything Anything
@@ -60,11 +49,7 @@ any_steps j = record {
   pair = λ lower upper is_lower is_upper anything other. tt;
 }
 
-all_anything : (rows : List Combination) → AllByRecursion Anything rows
-all_anything [] = tt
-all_anything (row ∷ rows) = (tt, all_anything rows)
-
 pub all_narrow : (rows : List Row) (cap : ℕ) → Holding Anything AreNarrow (eliminate cap (columns_of rows) 0 (list_of cap (initial 0 rows)))
 all_narrow rows cap =
     eliminate_holds Anything AreNarrow narrow_joins any_steps cap (columns_of rows) 0 (list_of cap (initial 0 rows))
-    (new_list_holds Anything AreNarrow narrow_joins any_steps cap (initial 0 rows) (all_anything (initial 0 rows)))
+    (new_list_holds Anything Anything AreNarrow narrow_joins cap (initial 0 rows) (all_anything (initial 0 rows)))

@@ -1,10 +1,11 @@
 -- The equality that is picked for a column, and the three kinds of rows where there is none.
-use Rattle.std.proofs.Common.{◌≡◌, ◌⊎◌, ℕ, zero, suc, Bool, true, false, cond, not, List, [], ◌∷◌, map, refl, sym, ◌∙◌, ap, subst, inl, inr, Option, Some, None}
+use Rattle.std.proofs.Common.{◌≡◌, ◌⊎◌, ℕ, zero, suc, Bool, true, false, cond, not, List, [], ◌∷◌, map, refl, ◌∙◌, ap, subst, inl, inr, Option, Some, None}
 use Rattle.std.specs.Prelude.{ℤ, pos, negsuc, ◌&&◌}
 use Rattle.std.specs.List.{AllByRecursion}
+use Rattle.std.proofs.lemmas.Bool.{and_parts, not-true}
 use Rattle.elimination.specs.Combination.{Combination, entry, is_zero, is_positive, is_negative}
 use Rattle.elimination.specs.Column.{is_pivot, behind, pivot_of, without, lower_bounds, upper_bounds, paired, pairs}
-use Rattle.elimination.proofs.Lists.{all_front, all_back, all_of_map, kept}
+use Rattle.elimination.proofs.Lists.{Anything, all_anything, all_front, all_back, all_of_map, all_filter}
 use Rattle.elimination.proofs.Points.{positive_not_zero, negative_not_zero}
 
 abbrev pub Picked : Type 0
@@ -63,15 +64,14 @@ picked_test j (row ∷ rows) picked e =
       | inr later ↦ ap (λ (t : Picked). is_pivot j t.0) later.2 ∙ picked_test j rows later.0 later.1
     ]
 
-pub and_not : (a b : Bool) → (a && not b) ≡ true → (a ≡ true) × (b ≡ false)
-and_not true true e = (refl, sym e)
-and_not true false e = (refl, refl)
-and_not false b e = cc
+pub pivot_parts : (j : ℕ) (row : Combination) → is_pivot j row ≡ true → (row.row.equality ≡ true) × (is_zero (entry j row) ≡ false)
+pivot_parts j row e =
+    let both = and_parts row.row.equality (not (is_zero (entry j row))) e in (both.0, not-true (is_zero (entry j row)) both.1)
 
 -- the pivot is an equality that has the column
 pub pivot_is : (j : ℕ) (rows : List Combination) (picked : Picked) → pivot_of j rows ≡ Some picked
     → (picked.0.row.equality ≡ true) × (is_zero (entry j picked.0) ≡ false)
-pivot_is j rows picked e = and_not picked.0.row.equality (is_zero (entry j picked.0)) (picked_test j rows picked e)
+pivot_is j rows picked e = pivot_parts j picked.0 (picked_test j rows picked e)
 
 -- ---- rows without the column, lower and upper bounds
 
@@ -92,9 +92,8 @@ all_kinds j P (row ∷ rows) all_flat all_lower all_upper =
     (step.0, all_kinds j P rows step.1 step.2 step.3)
 
 pub all_without : (j : ℕ) (rows : List Combination) → AllByRecursion (λ row. is_zero (entry j row) ≡ true) (without j rows)
-all_without j [] = tt
-all_without j (row ∷ rows) =
-    kept (is_zero (entry j row)) (λ (r : Combination). is_zero (entry j r) ≡ true) row (without j rows) (λ e. e) (all_without j rows)
+all_without j rows =
+    all_filter Anything (λ (row : Combination). is_zero (entry j row) ≡ true) (λ row. is_zero (entry j row)) (λ row is anything. is) rows (all_anything rows)
 
 not_both : (a b : Bool) → (a && not b) ≡ false → b ≡ false → a ≡ false
 not_both true b e f = cc
@@ -110,17 +109,15 @@ IsUpperBound j row = (is_negative (entry j row) ≡ true) × (row.row.equality �
 
 pub all_lower_bounds : (j : ℕ) (rows : List Combination) → AllByRecursion (λ row. is_pivot j row ≡ false) rows
     → AllByRecursion (IsLowerBound j) (lower_bounds j rows)
-all_lower_bounds j [] none = tt
-all_lower_bounds j (row ∷ rows) none =
-    kept (is_positive (entry j row)) (IsLowerBound j) row (lower_bounds j rows)
-    (λ e. (e, not_both row.row.equality (is_zero (entry j row)) none.0 (positive_not_zero (entry j row) e))) (all_lower_bounds j rows none.1)
+all_lower_bounds j rows none =
+    all_filter (λ (row : Combination). is_pivot j row ≡ false) (IsLowerBound j) (λ row. is_positive (entry j row))
+    (λ row is fails. (is, not_both row.row.equality (is_zero (entry j row)) fails (positive_not_zero (entry j row) is))) rows none
 
 pub all_upper_bounds : (j : ℕ) (rows : List Combination) → AllByRecursion (λ row. is_pivot j row ≡ false) rows
     → AllByRecursion (IsUpperBound j) (upper_bounds j rows)
-all_upper_bounds j [] none = tt
-all_upper_bounds j (row ∷ rows) none =
-    kept (is_negative (entry j row)) (IsUpperBound j) row (upper_bounds j rows)
-    (λ e. (e, not_both row.row.equality (is_zero (entry j row)) none.0 (negative_not_zero (entry j row) e))) (all_upper_bounds j rows none.1)
+all_upper_bounds j rows none =
+    all_filter (λ (row : Combination). is_pivot j row ≡ false) (IsUpperBound j) (λ row. is_negative (entry j row))
+    (λ row is fails. (is, not_both row.row.equality (is_zero (entry j row)) fails (negative_not_zero (entry j row) is))) rows none
 
 pub all_pairs : (j : ℕ) (A : Combination → Type 0) (lowers uppers : List Combination) → AllByRecursion A (pairs j lowers uppers)
     → AllByRecursion (λ lower. AllByRecursion (λ upper. A (paired j lower upper)) uppers) lowers

@@ -1,9 +1,9 @@
 -- The values of rows at points, and what becomes of them where the point is moved.
 use Rattle.std.proofs.Common.{◌≡◌, ℕ, zero, suc, ◌<◌, Bool, true, false, List, [], ◌∷◌, arith, refl, sym, ◌∙◌, ap, length, get_or, set}
-use Rattle.std.specs.Prelude.{ℤ, pos, negsuc, neg_ℤ, ◌+ℤ◌, ◌*ℤ◌, ◌-ℤ◌, ◌<ℤ◌}
+use Rattle.std.specs.Prelude.{ℤ, pos, negsuc, neg_ℤ, ◌+ℤ◌, ◌*ℤ◌, ◌-ℤ◌, ◌≤ℤ◌, ◌<ℤ◌}
 use Rattle.std.specs.List.{AllByRecursion}
 use Rattle.std.proofs.lemmas.Int.{ints}
-use Rattle.lin_terms.specs.Vectors.{dot, scaled}
+use Rattle.lin_terms.specs.Vectors.{dot, plus, scaled}
 use Rattle.lin_terms.specs.Row.{Allows, Meets}
 use Rattle.lin_terms.proofs.Ring.{as_dif, same_dif, difs}
 use Rattle.lin_terms.proofs.Dots.{dot-plus, dot-scaled, get_or-plus, get_or-scaled, length-scaled}
@@ -60,6 +60,9 @@ value-moved coefs c numbers d k y j inside =
 
 -- ---- a sum of two rows
 
+pub dot-sum : (k : ℤ) (xs : List ℤ) (l : ℤ) (ys zs : List ℤ) → dot (plus (scaled k xs) (scaled l ys)) zs ≡ (k *ℤ dot xs zs) +ℤ (l *ℤ dot ys zs)
+dot-sum k xs l ys zs = rw (dot-plus (scaled k xs) (scaled l ys) zs, dot-scaled k xs zs, dot-scaled l ys zs) refl
+
 sum_step : (k p l q c e d : ℤ)
     → ((k *ℤ p) +ℤ (l *ℤ q)) +ℤ (((k *ℤ c) +ℤ (l *ℤ e)) *ℤ d) ≡ (k *ℤ (p +ℤ (c *ℤ d))) +ℤ (l *ℤ (q +ℤ (e *ℤ d)))
 sum_step k p l q c e d =
@@ -68,7 +71,7 @@ sum_step k p l q c e d =
 pub value-combined : (numbers : List ℤ) (d k : ℤ) (p : Combination) (l : ℤ) (q : Combination)
     → value numbers d (combined k p l q) ≡ (k *ℤ value numbers d p) +ℤ (l *ℤ value numbers d q)
 value-combined numbers d k p l q =
-    rw (dot-plus (scaled k p.row.coefs) (scaled l q.row.coefs) numbers, dot-scaled k p.row.coefs numbers, dot-scaled l q.row.coefs numbers)
+    rw (dot-sum k p.row.coefs l q.row.coefs numbers)
     (sum_step k (dot p.row.coefs numbers) l (dot q.row.coefs numbers) p.row.constant q.row.constant d)
 
 pub entry-combined : (i : ℕ) (k : ℤ) (p : Combination) (l : ℤ) (q : Combination)
@@ -113,7 +116,7 @@ pub negative_not_zero : (a : ℤ) → is_negative a ≡ true → is_zero a ≡ f
 negative_not_zero (pos n) e = cc
 negative_not_zero (negsuc n) e = refl
 
--- a positive multiple of a value is allowed as the value is
-pub allows_multiple : (equality : Bool) (k v : ℤ) → pos 0 <ℤ k → Allows equality v → Allows equality (k *ℤ v)
-allows_multiple true k v positive allowed = ap (λ t. k *ℤ t) allowed ∙ omega (arith, ints)
-allows_multiple false k v positive allowed = nonneg_mul k v (omega (arith, ints)) allowed
+-- a multiple of a value is allowed where the value is
+pub allows_multiple : (equality : Bool) (k v : ℤ) → pos 0 ≤ℤ k → Allows equality v → Allows equality (k *ℤ v)
+allows_multiple true k v not_negative allowed = ap (λ t. k *ℤ t) allowed ∙ omega (arith, ints)
+allows_multiple false k v not_negative allowed = nonneg_mul k v not_negative allowed

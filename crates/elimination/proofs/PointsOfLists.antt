@@ -1,47 +1,34 @@
 -- A point of a list meets the rows that joined it.
 use Rattle.std.proofs.Common.{◌≡◌, ℕ, zero, suc, ◌+◌, ◌<◌, ◌≤◌, Bool, true, false, cond, not, List, [], ◌∷◌, ◌++◌, arith, refl, sym, ◌∙◌, subst, length, length-set, set, Result, Ok, Err}
-use Rattle.std.specs.Prelude.{ℤ, pos, negsuc, ◌+ℤ◌, ◌*ℤ◌, ◌-ℤ◌, ◌≤ℤ◌, ◌<ℤ◌, ◌&&◌, int_lt, nat_le}
+use Rattle.std.specs.Prelude.{ℤ, pos, negsuc, ◌+ℤ◌, ◌*ℤ◌, ◌-ℤ◌, ◌≤ℤ◌, ◌<ℤ◌, int_lt, nat_le}
 use Rattle.std.specs.List.{AllByRecursion}
 use Rattle.std.specs.Ordering.{int_eq}
 use Rattle.std.proofs.lemmas.Int.{ints}
+use Rattle.std.proofs.lemmas.Bool.{and_parts, not-true, cond_both}
 use Rattle.std.proofs.lemmas.Bool.Decides.{Decides-int_eq}
 use lib.Pointwise.{pointwise, pointwise_decides}
 use Rattle.lin_terms.specs.Vectors.{dot, scaled}
 use Rattle.lin_terms.specs.Row.{Allows, Meets}
 use Rattle.lin_terms.proofs.Ring.{as_dif, same_dif, difs}
 use Rattle.lin_terms.proofs.Signs.{nonneg_add, nonneg_mul}
-use Rattle.lin_terms.proofs.Dots.{length-scaled}
+use Rattle.lin_terms.proofs.Dots.{length-scaled, zero_entries, dot-zeros}
 use Rattle.elimination.specs.declared.answer.Stop.{Stop}
 use Rattle.elimination.specs.declared.answer.Stop.TheVariants.{Contradiction, AtLimit}
 use Rattle.elimination.specs.declared.answer.Limit.TheVariants.{WideRow, ManyRows}
 use Rattle.elimination.specs.Combination.{Combination, is_zero}
 use Rattle.elimination.specs.Column.{projected}
-use Rattle.elimination.specs.Joining.{numbers_of, primitive, is_wide, has_no_variable, allows, turned, judged, is_parallel, tighter, placed, added, counted, joined, joined_each, list_of}
+use Rattle.elimination.specs.Joining.{numbers_of, primitive, is_wide, has_no_variable, allows, turned, judged, is_parallel, tighter, placed, added, counted, admitted, joined, joined_each, list_of}
 use Rattle.elimination.specs.Eliminated.{eliminate}
 use Rattle.elimination.proofs.Lists.{all_front, all_back}
 use Rattle.elimination.proofs.Points.{MeetsEach, zero_is}
 use Rattle.elimination.proofs.Primitive.{primitive_back}
+use Rattle.elimination.proofs.Stepping.{eliminate_stopped}
 use Rattle.elimination.proofs.CarriedBack.{carried_back}
 
 pub ok_same : (xs ys : List Combination) → ◌≡◌ {A = Result (List Combination) Stop} (Ok xs) (Ok ys) → xs ≡ ys
 ok_same xs ys e = cc
 
-pub and_true : (a b : Bool) → (a && b) ≡ true → (a ≡ true) × (b ≡ true)
-and_true true b e = (refl, e)
-and_true false b e = cc
-
-not_true : (b : Bool) → not b ≡ true → b ≡ false
-not_true true e = sym e
-not_true false e = refl
-
 -- ---- a row that is left out
-
-dot-no_variable : (coefs numbers : List ℤ) → has_no_variable coefs ≡ true → dot coefs numbers ≡ pos 0
-dot-no_variable [] numbers e = refl
-dot-no_variable (c ∷ coefs) [] e = refl
-dot-no_variable (c ∷ coefs) (x ∷ numbers) e =
-    let both = and_true (is_zero c) (has_no_variable coefs) e in
-    rw (zero_is c both.0, dot-no_variable coefs numbers both.1) (omega (arith, ints))
 
 constant_allowed : (equality : Bool) (c d : ℤ) → pos 0 ≤ℤ d → allows equality c ≡ true → Allows equality (pos 0 +ℤ (c *ℤ d))
 constant_allowed true c d not_negative e = rw (zero_is c e) (omega (arith, ints))
@@ -52,7 +39,7 @@ constant_allowed false (negsuc n) d not_negative e = cc
 left_out : (numbers : List ℤ) (d : ℤ) (row : Combination) → pos 0 ≤ℤ d → has_no_variable row.row.coefs ≡ true
     → allows row.row.equality row.row.constant ≡ true → Meets numbers d row.row
 left_out numbers d row not_negative no_variable allowed =
-    rw (dot-no_variable row.row.coefs numbers no_variable) (constant_allowed row.row.equality row.row.constant d not_negative allowed)
+    rw (dot-zeros row.row.coefs numbers (zero_entries is_zero zero_is row.row.coefs no_variable)) (constant_allowed row.row.equality row.row.constant d not_negative allowed)
 
 -- ---- parallel rows
 
@@ -84,58 +71,51 @@ module _ (numbers : List ℤ) (d : ℤ) (not_negative : pos 0 ≤ℤ d) where
   tighter_step : (test : Bool) (earlier row : Combination) → int_lt row.row.constant earlier.row.constant ≡ test → row.row.equality ≡ false
       → is_parallel earlier row ≡ true → Met (cond test row earlier) → Met earlier × Met row
   tighter_step true earlier row less inequality parallel met =
-      let both = and_true (not earlier.row.equality) (pointwise int_eq earlier.row.coefs row.row.coefs) parallel in
+      let both = and_parts (not earlier.row.equality) (pointwise int_eq earlier.row.coefs row.row.coefs) parallel in
       let below : row.row.constant ≤ℤ earlier.row.constant = omega (arith, ints) in
-      (parallel_met row earlier inequality (not_true earlier.row.equality both.0) (sym (same_coefs earlier.row.coefs row.row.coefs both.1)) below met, met)
+      (parallel_met row earlier inequality (not-true earlier.row.equality both.0) (sym (same_coefs earlier.row.coefs row.row.coefs both.1)) below met, met)
   tighter_step false earlier row less inequality parallel met =
-      let both = and_true (not earlier.row.equality) (pointwise int_eq earlier.row.coefs row.row.coefs) parallel in
+      let both = and_parts (not earlier.row.equality) (pointwise int_eq earlier.row.coefs row.row.coefs) parallel in
       let below : earlier.row.constant ≤ℤ row.row.constant = omega (arith, ints) in
-      (met, parallel_met earlier row (not_true earlier.row.equality both.0) inequality (same_coefs earlier.row.coefs row.row.coefs both.1) below met)
-
-  placed_step : (test : Bool) (earlier row : Combination) (rows : List Combination) → is_parallel earlier row ≡ test → row.row.equality ≡ false
-      → (AllByRecursion Met (placed rows row) → AllByRecursion Met rows × Met row)
-      → AllByRecursion Met (cond test (tighter earlier row ∷ rows) (earlier ∷ placed rows row)) → AllByRecursion Met (earlier ∷ rows) × Met row
-  placed_step true earlier row rows parallel inequality later met =
-      let both = tighter_step (int_lt row.row.constant earlier.row.constant) earlier row refl inequality parallel met.0 in
-      ((both.0, met.1), both.1)
-  placed_step false earlier row rows parallel inequality later met = let both = later met.1 in ((met.0, both.0), both.1)
+      (met, parallel_met earlier row (not-true earlier.row.equality both.0) inequality (same_coefs earlier.row.coefs row.row.coefs both.1) below met)
 
   placed_back : (rows : List Combination) (row : Combination) → row.row.equality ≡ false → AllByRecursion Met (placed rows row) → AllByRecursion Met rows × Met row
   placed_back [] row inequality met = (tt, met.0)
   placed_back (earlier ∷ rows) row inequality met =
-      placed_step (is_parallel earlier row) earlier row rows refl inequality (placed_back rows row inequality) met
+      cond_both (is_parallel earlier row) (tighter earlier row ∷ rows) (earlier ∷ placed rows row) (λ rs. AllByRecursion Met rs → AllByRecursion Met (earlier ∷ rows) × Met row)
+      (λ parallel met_here. let both = tighter_step (int_lt row.row.constant earlier.row.constant) earlier row refl inequality parallel met_here.0 in ((both.0, met_here.1), both.1))
+      (λ other met_here. let both = placed_back rows row inequality met_here.1 in ((met_here.0, both.0), both.1)) met
 
-  added_back : (equality : Bool) (rows : List Combination) (row : Combination) → row.row.equality ≡ equality
-      → AllByRecursion Met (cond equality (rows ++ row ∷ []) (placed rows row)) → AllByRecursion Met rows × Met row
-  added_back true rows row is met = (all_front Met rows (row ∷ []) met, (all_back Met rows (row ∷ []) met).0)
-  added_back false rows row is met = placed_back rows row is met
+  added_back : (rows : List Combination) (row : Combination) → AllByRecursion Met (added rows row) → AllByRecursion Met rows × Met row
+  added_back rows row met =
+      cond_both row.row.equality (rows ++ row ∷ []) (placed rows row) (λ rs. AllByRecursion Met rs → AllByRecursion Met rows × Met row)
+      (λ equality met_here. (all_front Met rows (row ∷ []) met_here, (all_back Met rows (row ∷ []) met_here).0)) (λ inequality met_here. placed_back rows row inequality met_here) met
 
-  counted_back : (test : Bool) (rows out : List Combination) → cond test (Ok rows) (Err (AtLimit ManyRows)) ≡ Ok out → rows ≡ out
-  counted_back true rows out e = cc
-  counted_back false rows out e = cc
+  -- where the list is made, what meets it meets the rows before and the row that joins
+  abbrev IsMetBefore : List Combination → Combination → List Combination → Result (List Combination) Stop → Type 0
+  IsMetBefore rows row out made = made ≡ Ok out → AllByRecursion Met out → AllByRecursion Met rows × Met row
 
-  judged_back : (test : Bool) (rows : List Combination) (stop : Stop) (out : List Combination) → cond test (Ok rows) (Err stop) ≡ Ok out → (test ≡ true) × (rows ≡ out)
-  judged_back true rows stop out e = (refl, cc)
-  judged_back false rows stop out e = cc
+  judged_back : (rows : List Combination) (row : Combination) (out : List Combination) → has_no_variable row.row.coefs ≡ true → IsMetBefore rows row out (judged rows row)
+  judged_back rows row out no_variable =
+      cond_both (allows row.row.equality row.row.constant) (Ok rows) (Err (Contradiction (turned row.row.constant row.multipliers))) (IsMetBefore rows row out)
+      (λ allowed e met. (subst (AllByRecursion Met) (sym (ok_same rows out e)) met, left_out numbers d row not_negative no_variable allowed)) (λ fails e met. cc)
 
-  kept_back : (test : Bool) (cap : ℕ) (rows : List Combination) (row : Combination) (out : List Combination) → has_no_variable row.row.coefs ≡ test
-      → cond test (judged rows row) (counted cap (added rows row)) ≡ Ok out → AllByRecursion Met out → AllByRecursion Met rows × Met row
-  kept_back true cap rows row out no_variable e met =
-      let stays = judged_back (allows row.row.equality row.row.constant) rows (Contradiction (turned row.row.constant row.multipliers)) out e in
-      (subst (AllByRecursion Met) (sym stays.1) met, left_out numbers d row not_negative no_variable stays.0)
-  kept_back false cap rows row out no_variable e met =
-      added_back row.row.equality rows row refl (subst (AllByRecursion Met) (sym (counted_back (nat_le (length (added rows row)) cap) (added rows row) out e)) met)
+  counted_back : (cap : ℕ) (rows : List Combination) (row : Combination) (out : List Combination) → IsMetBefore rows row out (counted cap (added rows row))
+  counted_back cap rows row out =
+      cond_both (nat_le (length (added rows row)) cap) (Ok (added rows row)) (Err (AtLimit ManyRows)) (IsMetBefore rows row out)
+      (λ few e met. added_back rows row (subst (AllByRecursion Met) (sym (ok_same (added rows row) out e)) met)) (λ many e met. cc)
 
-  admitted_back : (test : Bool) (cap : ℕ) (rows : List Combination) (row : Combination) (out : List Combination)
-      → cond test (Err (AtLimit WideRow)) (cond (has_no_variable row.row.coefs) (judged rows row) (counted cap (added rows row))) ≡ Ok out
-      → AllByRecursion Met out → AllByRecursion Met rows × Met row
-  admitted_back true cap rows row out e met = cc
-  admitted_back false cap rows row out e met = kept_back (has_no_variable row.row.coefs) cap rows row out refl e met
+  admitted_back : (cap : ℕ) (rows : List Combination) (row : Combination) (out : List Combination) → IsMetBefore rows row out (admitted cap rows row)
+  admitted_back cap rows row out =
+      let by_variables : Result (List Combination) Stop = cond (has_no_variable row.row.coefs) (judged rows row) (counted cap (added rows row)) in
+      cond_both (is_wide (numbers_of row)) (Err (AtLimit WideRow)) by_variables (IsMetBefore rows row out) (λ wide e met. cc)
+      (λ narrow. cond_both (has_no_variable row.row.coefs) (judged rows row) (counted cap (added rows row)) (IsMetBefore rows row out)
+      (λ no_variable. judged_back rows row out no_variable) (λ variable. counted_back cap rows row out))
 
   joined_back : (cap : ℕ) (rows : List Combination) (row : Combination) (out : List Combination) → joined cap rows row ≡ Ok out
       → AllByRecursion Met out → AllByRecursion Met rows × Met row
   joined_back cap rows row out e met =
-      let both = admitted_back (is_wide (numbers_of (primitive row))) cap rows (primitive row) out e met in
+      let both = admitted_back cap rows (primitive row) out e met in
       (both.0, primitive_back numbers d row both.1)
 
   -- the list before, which the point meets as well as the rows that joined
@@ -161,8 +141,7 @@ module _ (numbers : List ℤ) (d : ℤ) (not_negative : pos 0 ≤ℤ d) where
 -- ---- all columns
 
 pub eliminate_err : (cap left j : ℕ) (stop : Stop) (out : List Combination) → eliminate cap left j (Err stop) ≡ Ok out → ⊥
-eliminate_err cap zero j stop out e = cc
-eliminate_err cap (suc left) j stop out e = cc
+eliminate_err cap left j stop out e = let stopped = eliminate_stopped cap left j stop in cc
 
 positive_mul : (a b : ℤ) → pos 0 <ℤ a → pos 0 <ℤ b → pos 0 <ℤ (a *ℤ b)
 positive_mul (pos zero) b a_positive b_positive = absurd a_positive.lt

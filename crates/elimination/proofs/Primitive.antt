@@ -1,5 +1,5 @@
 -- Rows over the greatest common divisor of all their numbers.
-use Rattle.std.proofs.Common.{◌≡◌, ℕ, zero, suc, ◌-◌, max, Bool, true, false, List, [], ◌∷◌, ◌++◌, map, arith, refl, sym, ◌∙◌, ap, subst, get_or}
+use Rattle.std.proofs.Common.{◌≡◌, ℕ, zero, suc, ◌-◌, max, List, [], ◌∷◌, map, arith, refl, sym, ◌∙◌, ap, subst, get_or}
 use Prim.Native.Nat.{◌∣◌}
 use Rattle.std.specs.Prelude.{ℤ, pos, ◌+ℤ◌, ◌*ℤ◌, unsigned_abs}
 use Rattle.std.proofs.lemmas.Int.{ints}
@@ -8,34 +8,18 @@ use Rattle.lin_terms.specs.Vectors.{dot}
 use Rattle.lin_terms.specs.Row.{Allows, Meets}
 use Rattle.lin_terms.specs.Divisor.{gcd_of, floor_div}
 use Rattle.lin_terms.proofs.Ring.{as_dif, same_dif, difs}
-use Rattle.lin_terms.proofs.Signs.{nonneg_mul}
 use Rattle.lin_terms.proofs.Divisors.{DividesAll, gcd_of_divides, exact_quotient, dot-quotients}
 use Rattle.elimination.specs.Combination.{Combination, entry}
 use Rattle.elimination.specs.Joining.{numbers_of, divided, primitive}
-use Rattle.elimination.proofs.Points.{value}
+use Rattle.elimination.proofs.Lists.{all_weaker, all_front, all_back}
+use Rattle.elimination.proofs.Points.{value, allows_multiple}
 
 -- ---- the divisor
 
-one_divides : (xs : List ℤ) → DividesAll zero xs → DividesAll 1 xs
-one_divides [] divides = tt
-one_divides (x ∷ xs) divides = (dvd_trans 1 (dvd-zero 1) divides.0, one_divides xs divides.1)
-
 at_least_one : (g : ℕ) (xs : List ℤ) → DividesAll g xs → DividesAll (max 1 g) xs
-at_least_one zero xs divides = one_divides xs divides
+at_least_one zero xs divides =
+    all_weaker (λ (x : ℤ). zero ∣ unsigned_abs x) (λ (x : ℤ). 1 ∣ unsigned_abs x) (λ x none. dvd_trans 1 (dvd-zero 1) none) xs divides
 at_least_one (suc n) xs divides = let e : max 1 (suc n) ≡ suc n = omega arith in subst (λ g. DividesAll g xs) (sym e) divides
-
-divides_front : (g : ℕ) (xs ys : List ℤ) → DividesAll g (xs ++ ys) → DividesAll g xs
-divides_front g [] ys divides = tt
-divides_front g (x ∷ xs) ys divides = (divides.0, divides_front g xs ys divides.1)
-
-divides_back : (g : ℕ) (xs ys : List ℤ) → DividesAll g (xs ++ ys) → DividesAll g ys
-divides_back g [] ys divides = divides
-divides_back g (x ∷ xs) ys divides = divides_back g xs ys divides.1
-
-pub get_or_divides : (g : ℕ) (xs : List ℤ) (j : ℕ) → DividesAll g xs → g ∣ unsigned_abs (get_or xs j (pos 0))
-get_or_divides g [] j divides = dvd-zero g
-get_or_divides g (x ∷ xs) zero divides = divides.0
-get_or_divides g (x ∷ xs) (suc j) divides = get_or_divides g xs j divides.1
 
 -- a positive number, written as one more than another, that divides all numbers of a row; the primitive row is the row over it
 pub record IsDivisor (row : Combination) (n : ℕ) : Type 0 where
@@ -53,8 +37,8 @@ divisor_of row =
       record {
         is = ap (λ m. divided m row) e;
         constant = divides.0;
-        coefs = divides_front (suc (g - 1)) row.row.coefs row.multipliers divides.1;
-        multipliers = divides_back (suc (g - 1)) row.row.coefs row.multipliers divides.1;
+        coefs = all_front (λ (x : ℤ). suc (g - 1) ∣ unsigned_abs x) row.row.coefs row.multipliers divides.1;
+        multipliers = all_back (λ (x : ℤ). suc (g - 1) ∣ unsigned_abs x) row.row.coefs row.multipliers divides.1;
       },
     )
 
@@ -62,10 +46,6 @@ divisor_of row =
 
 multiple_step : (g s c d : ℤ) → g *ℤ (s +ℤ (c *ℤ d)) ≡ (g *ℤ s) +ℤ ((g *ℤ c) *ℤ d)
 multiple_step g s c d = rw (as_dif g, as_dif s, as_dif c, as_dif d) (simp difs (same_dif _ _ _ _ (omega arith)))
-
-allows_times : (equality : Bool) (g : ℕ) (v : ℤ) → Allows equality v → Allows equality (pos g *ℤ v)
-allows_times true g v allowed = ap (λ t. pos g *ℤ t) allowed ∙ omega (arith, ints)
-allows_times false g v allowed = nonneg_mul (pos g) v (omega (arith, ints)) allowed
 
 divided_back : (numbers : List ℤ) (d : ℤ) (row : Combination) (n : ℕ) → IsDivisor row n → Meets numbers d (divided (suc n) row).row → Meets numbers d row.row
 divided_back numbers d row n divisor met =
@@ -75,7 +55,7 @@ divided_back numbers d row n divisor met =
     subst (Allows row.row.equality) (multiple_step g (dot quotients numbers) c d
     ∙ ap (λ t. t +ℤ ((g *ℤ c) *ℤ d)) (dot-quotients n row.row.coefs numbers divisor.coefs)
     ∙ ap (λ t. dot row.row.coefs numbers +ℤ (t *ℤ d)) (exact_quotient n row.row.constant divisor.constant))
-    (allows_times row.row.equality (suc n) (value numbers d (divided (suc n) row)) met)
+    (allows_multiple row.row.equality g (value numbers d (divided (suc n) row)) (omega (arith, ints)) met)
 
 -- a point of the primitive row meets the row
 pub primitive_back : (numbers : List ℤ) (d : ℤ) (row : Combination) → Meets numbers d (primitive row).row → Meets numbers d row.row

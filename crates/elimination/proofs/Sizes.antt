@@ -1,11 +1,13 @@
 -- How great the numbers of sums are.
-use Rattle.std.proofs.Common.{ℕ, zero, suc, Bool, true, false, cond, List, [], ◌∷◌, arith, get_or}
+use Rattle.std.proofs.Common.{ℕ, zero, suc, List, [], ◌∷◌, arith}
 use Rattle.std.specs.Prelude.{ℤ, pos, negsuc, neg_ℤ, ◌+ℤ◌, ◌*ℤ◌}
 use Rattle.std.specs.List.{AllByRecursion}
 use Rattle.std.proofs.lemmas.Int.{ints}
+use Rattle.std.proofs.lemmas.Bool.{cond_both}
 use Rattle.std.proofs.lemmas.List.Elements.{All-from_recursion, recursion_from_All}
 use Rattle.lin_terms.specs.Row.{IsNarrow}
 use Rattle.lin_terms.specs.Vectors.{plus, scaled}
+use Rattle.lin_terms.proofs.Entries.{get_or_all}
 use Rattle.farkas_check.proofs.Wide.{unsigned_abs-product, unsigned_abs-sum}
 use Rattle.elimination.specs.Combination.{Combination, entry, is_zero, sign, size, combined}
 use Rattle.elimination.specs.Column.{reduced, paired}
@@ -55,13 +57,8 @@ small_combination row narrow =
           (all_weaker IsNarrow IsSmall small_of_narrow row.multipliers (recursion_from_All IsNarrow row.multipliers narrow.multipliers)),
     )
 
-get_or_narrow : (xs : List ℤ) (j : ℕ) → AllByRecursion IsNarrow xs → IsNarrow (get_or xs j (pos 0))
-get_or_narrow [] j narrow = omega arith
-get_or_narrow (x ∷ xs) zero narrow = narrow.0
-get_or_narrow (x ∷ xs) (suc j) narrow = get_or_narrow xs j narrow.1
-
 entry_narrow : (j : ℕ) (row : Combination) → IsNarrowCombination row → IsNarrow (entry j row)
-entry_narrow j row narrow = get_or_narrow row.row.coefs j (recursion_from_All IsNarrow row.row.coefs narrow.coefs)
+entry_narrow j row narrow = get_or_all IsNarrow row.row.coefs j (pos 0) (omega arith) (recursion_from_All IsNarrow row.row.coefs narrow.coefs)
 
 signed_narrow : (a b : ℤ) → IsNarrow b → IsNarrow (neg_ℤ (sign a *ℤ b))
 signed_narrow (pos zero) b narrow = omega (arith, ints)
@@ -73,10 +70,9 @@ small_paired j lower upper working =
     small_combined (size (entry j upper)) lower (entry j lower) upper (entry_narrow j upper working.second_narrow) (entry_narrow j lower working.first_narrow) working.first_narrow working.second_narrow
 
 pub small_reduced : (j : ℕ) (pivot row : Combination) → AreWorking pivot row → IsSmallCombination (reduced j pivot row)
-small_reduced j pivot row working = by_test (is_zero (entry j row))
-  where
-    by_test : (test : Bool) → IsSmallCombination (cond test row (combined (size (entry j pivot)) row (neg_ℤ (sign (entry j pivot) *ℤ entry j row)) pivot))
-    by_test true = small_combination row working.second_narrow
-    by_test false =
-        small_combined (size (entry j pivot)) row (neg_ℤ (sign (entry j pivot) *ℤ entry j row)) pivot (entry_narrow j pivot working.first_narrow)
-        (signed_narrow (entry j pivot) (entry j row) (entry_narrow j row working.second_narrow)) working.second_narrow working.first_narrow
+small_reduced j pivot row working =
+    let k : ℤ = size (entry j pivot) in
+    let l : ℤ = neg_ℤ (sign (entry j pivot) *ℤ entry j row) in
+    cond_both (is_zero (entry j row)) row (combined k row l pivot) IsSmallCombination (λ is. small_combination row working.second_narrow)
+    (λ other. small_combined k row l pivot (entry_narrow j pivot working.first_narrow)
+    (signed_narrow (entry j pivot) (entry j row) (entry_narrow j row working.second_narrow)) working.second_narrow working.first_narrow)

@@ -1,5 +1,5 @@
--- Rows that join one after the other.
-use Rattle.std.proofs.Common.{◌≡◌, ℕ, ◌+◌, ◌<◌, Bool, true, false, cond, List, [], ◌∷◌, ◌++◌, map, refl, sym, ◌∙◌, ap, length, get_or, drop, Result, Ok, Err}
+-- Rows that join one after the other, and what stops them.
+use Rattle.std.proofs.Common.{◌≡◌, ℕ, zero, suc, ◌+◌, ◌<◌, Bool, true, false, cond, List, [], ◌∷◌, ◌++◌, map, refl, sym, ◌∙◌, ap, length, get_or, drop, Result, Ok, Err}
 use Rattle.std.specs.Prelude.{filter}
 use Rattle.std.proofs.lemmas.List.{drop_more}
 use Rattle.elimination.specs.declared.answer.Limit.TheVariants.{WideRow, ManyRows, Memory}
@@ -8,6 +8,7 @@ use Rattle.elimination.specs.declared.answer.Stop.TheVariants.{Contradiction, At
 use Rattle.elimination.specs.Combination.{Combination, entry, is_positive}
 use Rattle.elimination.specs.Column.{paired, pairs, lower_bounds}
 use Rattle.elimination.specs.Joining.{joined, joined_each}
+use Rattle.elimination.specs.Eliminated.{eliminate}
 use Rattle.elimination.specs.Outcome.{IsOutcome}
 
 -- what stopped a list stays
@@ -22,13 +23,40 @@ joined_append cap (Err stop) (x ∷ xs) ys = stopped_each cap stop ys ∙ refl
 joined_append cap (Ok rows) [] ys = refl
 joined_append cap (Ok rows) (x ∷ xs) ys = joined_append cap (joined cap rows x) xs ys
 
+pub eliminate_stopped : (cap left j : ℕ) (stop : Stop) → eliminate cap left j (Err stop) ≡ Err stop
+eliminate_stopped cap zero j stop = refl
+eliminate_stopped cap (suc left) j stop = refl
+
+-- where what comes first is stopped, and what comes next leaves it so, all is stopped
+stopped_first : (next : Result (List Combination) Stop → Result (List Combination) Stop) → ((stop : Stop) → next (Err stop) ≡ Err stop)
+    → (first target : Result (List Combination) Stop) (stop : Stop) (after last : List Combination)
+    → next first ≡ target → IsOutcome first (Err stop) after → IsOutcome target (Err stop) last
+stopped_first next stays first target (Contradiction multipliers) after last e is = sym e ∙ ap next is ∙ stays (Contradiction multipliers)
+stopped_first next stays first target (AtLimit WideRow) after last e is = sym e ∙ ap next is ∙ stays (AtLimit WideRow)
+stopped_first next stays first target (AtLimit ManyRows) after last e is = sym e ∙ ap next is ∙ stays (AtLimit ManyRows)
+stopped_first next stays first target (AtLimit Memory) after last e is = tt
+
 -- where the first rows stop the list, all do
 pub stops : (cap : ℕ) (first target : Result (List Combination) Stop) (stop : Stop) (after : List Combination) (later : List Combination)
     → joined_each cap first later ≡ target → IsOutcome first (Err stop) after → IsOutcome target (Err stop) after
-stops cap first target (Contradiction multipliers) after later e is = sym e ∙ ap (λ t. joined_each cap t later) is ∙ stopped_each cap (Contradiction multipliers) later
-stops cap first target (AtLimit WideRow) after later e is = sym e ∙ ap (λ t. joined_each cap t later) is ∙ stopped_each cap (AtLimit WideRow) later
-stops cap first target (AtLimit ManyRows) after later e is = sym e ∙ ap (λ t. joined_each cap t later) is ∙ stopped_each cap (AtLimit ManyRows) later
-stops cap first target (AtLimit Memory) after later e is = tt
+stops cap first target stop after later e is =
+    stopped_first (λ before. joined_each cap before later) (λ stop. stopped_each cap stop later) first target stop after after e is
+
+-- the same of rows in front of others
+pub front_stops : (cap : ℕ) (start xs ys : List Combination) (stop : Stop) (after : List Combination)
+    → IsOutcome (joined_each cap (Ok start) xs) (Err stop) after → IsOutcome (joined_each cap (Ok start) (xs ++ ys)) (Err stop) after
+front_stops cap start xs ys stop after is =
+    stops cap (joined_each cap (Ok start) xs) (joined_each cap (Ok start) (xs ++ ys)) stop after ys (sym (joined_append cap (Ok start) xs ys)) is
+
+-- the rows behind, after those in front have joined
+pub continued : (cap : ℕ) (start mid xs ys : List Combination) → joined_each cap (Ok start) xs ≡ Ok mid → joined_each cap (Ok mid) ys ≡ joined_each cap (Ok start) (xs ++ ys)
+continued cap start mid xs ys first = sym (joined_append cap (Ok start) xs ys ∙ ap (λ t. joined_each cap t ys) first)
+
+-- where a list is stopped, so is the elimination
+pub stops_there : (cap left j : ℕ) (first target : Result (List Combination) Stop) (stop : Stop) (after last : List Combination)
+    → eliminate cap left j first ≡ target → IsOutcome first (Err stop) after → IsOutcome target (Err stop) last
+stops_there cap left j first target stop after last e is =
+    stopped_first (λ before. eliminate cap left j before) (eliminate_stopped cap left j) first target stop after last e is
 
 -- where they join, the others are left
 pub goes_on : (cap : ℕ) (first target : Result (List Combination) Stop) (after : List Combination) (later : List Combination)

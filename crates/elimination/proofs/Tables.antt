@@ -4,6 +4,7 @@ use Rattle.std.specs.Int.{int_div_euclid}
 use Rattle.std.specs.Prelude.{ℤ, pos, negsuc, ◌<ℤ◌, ◌+ℤ◌, ◌*ℤ◌, All}
 use Rattle.std.specs.List.{AllByRecursion}
 use Rattle.std.proofs.lemmas.Int.{ints}
+use Rattle.std.proofs.lemmas.Bool.{eq-eqb}
 use Rattle.std.proofs.lemmas.Bool.Decides.{nat_tests}
 use Rattle.std.proofs.lemmas.List.Elements.{All-from_recursion, recursion_from_All}
 use Rattle.lin_terms.specs.Vectors.{plus, scaled}
@@ -30,9 +31,6 @@ at_before row low high (entry ∷ entries) rising before =
     let other : eqb entry.row row ≡ false = grind (arith, nat_tests, rising.0) in
     rw (other, at_before row (suc entry.row) high entries rising.1 (omega (arith, rising.0))) refl
 
-own_row : (n : ℕ) → eqb n n ≡ true
-own_row n = grind (arith, nat_tests)
-
 plus_zero : (z : ℤ) → z +ℤ pos 0 ≡ z
 plus_zero z = omega (arith, ints)
 
@@ -41,7 +39,7 @@ zero_plus z = omega (arith, ints)
 
 at_own : (low high : ℕ) (entry : Multiplier) (entries : List Multiplier) → IsRising low high (entry ∷ entries) → at (entry ∷ entries) entry.row ≡ entry.value
 at_own low high entry entries rising =
-    rw (own_row entry.row, at_before entry.row (suc entry.row) high entries rising.1 (omega arith)) (plus_zero entry.value)
+    rw (eq-eqb entry.row entry.row refl, at_before entry.row (suc entry.row) high entries rising.1 (omega arith)) (plus_zero entry.value)
 
 at_later : (low high row : ℕ) (entry : Multiplier) (entries : List Multiplier) → entry.row < row → at (entry ∷ entries) row ≡ at entries row
 at_later low high row entry entries later =

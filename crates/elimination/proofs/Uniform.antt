@@ -15,8 +15,8 @@ use Rattle.elimination.specs.Column.{projected}
 use Rattle.elimination.specs.Joining.{numbers_of, divided, primitive, list_of}
 use Rattle.elimination.specs.Eliminated.{initial}
 use Rattle.elimination.specs.Working.{HasShape, IsWorking, AreWorking, AreUniform}
-use Rattle.elimination.proofs.Lists.{all_weaker}
-use Rattle.elimination.proofs.Keeping.{Holding, Joins, Steps, list_of_holds, projected_has}
+use Rattle.elimination.proofs.Lists.{Anything}
+use Rattle.elimination.proofs.Keeping.{Holding, Joins, Steps, new_list_holds, projected_has}
 use Rattle.elimination.proofs.Places.{narrow_combination}
 
 length-sum : (k : ℤ) (xs : List ℤ) (l : ℤ) (ys : List ℤ) (n : ℕ) → length xs ≡ n → length ys ≡ n → length (plus (scaled k xs) (scaled l ys)) ≡ n
@@ -44,23 +44,20 @@ shape_steps n m j = record {
       shape-combined n m (size (entry j upper)) lower (entry j lower) upper lower_working.shape upper_working.shape;
 }
 
-abbrev NothingOf : List ℤ → Type 0
-NothingOf multipliers = Unit {0}
-
-shape_joins : (n m : ℕ) (row : Combination) → HasShape n m row → Joins (IsWorking n m) NothingOf (primitive row)
+shape_joins : (n m : ℕ) (row : Combination) → HasShape n m row → Joins (IsWorking n m) Anything (primitive row)
 shape_joins n m row shape = record {
   kept = λ narrow variable. record { shape = shape-divided n m (max 1 (gcd_of (numbers_of row))) row shape; narrow = narrow_combination (primitive row) narrow };
   failed = λ narrow no_variable fails. tt;
 }
 
-all_of_list : (n m : ℕ) (made : Result (List Combination) Stop) (rows : List Combination) → Holding (IsWorking n m) NothingOf made → made ≡ Ok rows → AllByRecursion (IsWorking n m) rows
+all_of_list : (n m : ℕ) (made : Result (List Combination) Stop) (rows : List Combination) → Holding (IsWorking n m) Anything made → made ≡ Ok rows → AllByRecursion (IsWorking n m) rows
 all_of_list n m (Ok rows) others holds e = let same : rows ≡ others = cc in subst (AllByRecursion (IsWorking n m)) same holds
 all_of_list n m (Err stop) others holds e = cc
 
 next_list : (n m cap : ℕ) (raws rows : List Combination) → AllByRecursion (HasShape n m) raws → list_of cap raws ≡ Ok rows → AllByRecursion (IsWorking n m) rows
 next_list n m cap raws rows shapes e =
     all_of_list n m (list_of cap raws) rows
-    (list_of_holds (IsWorking n m) NothingOf cap raws (all_weaker (HasShape n m) (λ row. Joins (IsWorking n m) NothingOf (primitive row)) (shape_joins n m) raws shapes)) e
+    (new_list_holds (HasShape n m) (IsWorking n m) Anything (shape_joins n m) cap raws shapes) e
 
 pub uniform_next : (cap j : ℕ) (old rows : List Combination) → AreUniform old → list_of cap (projected j old) ≡ Ok rows → AreUniform rows
 uniform_next cap j old rows uniform e =

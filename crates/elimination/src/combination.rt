@@ -9,9 +9,8 @@ ghost use Rattle.elimination.specs.Joining.{numbers_of, divided, primitive, has_
 ghost use Rattle.elimination.specs.Eliminated.{given_row};
 ghost use Rattle.elimination.specs.Working.{IsWorking, HasShape, IsNarrowCombination, IsSmallCombination};
 
-use crate::divisor::gcd_with_size;
 use crate::multipliers::{Multipliers, Weights, product};
-use lin_terms::Row;
+use lin_terms::{Row, gcd};
 use sqlite_items::Items;
 use std::alloc::{AllocError, Global};
 use std::marker::Model;
@@ -120,7 +119,7 @@ fn gcd_of_numbers(start: u128, numbers: &[i128]) -> u128
 {
     let mut g = start;
     for number in numbers {
-        g = gcd_with_size(g, number);
+        g = gcd(g, number.unsigned_abs());
     }
     g
 }
@@ -206,7 +205,7 @@ impl Combination {
     fn divisor(&self) -> u128
         ensures { result ≡ gcd_of (numbers_of self.now) }
     {
-        let constant = gcd_with_size(0, &self.constant);
+        let constant = gcd(0, self.constant.unsigned_abs());
         let coefs = gcd_of_numbers(constant, self.coefs.as_slice());
         self.multipliers.gcd_with(coefs)
     }

@@ -11,7 +11,6 @@
 mod answer;
 mod column;
 mod combination;
-mod divisor;
 mod joining;
 mod laws;
 mod multipliers;

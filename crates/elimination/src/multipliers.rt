@@ -8,7 +8,7 @@ ghost use Rattle.lin_terms.specs.Row.{IsNarrow};
 ghost use Rattle.lin_terms.specs.Vectors.{plus, scaled};
 ghost use Rattle.elimination.specs.Sparse.{at, first_row, front_of, behind_row, IsRising, IsAdded, quotient_of, quotients_of, table};
 
-use crate::divisor::gcd_with_size;
+use lin_terms::gcd;
 use sqlite_items::Items;
 use std::alloc::{AllocError, Global};
 use std::marker::Model;
@@ -179,7 +179,7 @@ fn gcd_of_entries(start: u128, entries: &[Multiplier]) -> u128
 {
     let mut g = start;
     for entry in entries {
-        g = gcd_with_size(g, &entry.value);
+        g = gcd(g, entry.value.unsigned_abs());
     }
     g
 }

@@ -13,19 +13,9 @@ use crate::answer::{Answer, Limit, Stop};
 use crate::column::eliminate_column;
 use crate::combination::Combination;
 use crate::joining::join;
-use lin_terms::Row;
+use lin_terms::{Row, columns_of};
 use sqlite_items::Items;
 use std::alloc::Global;
-
-/// The number of columns of rows of one length.
-pub fn columns_of(given: &[Row]) -> usize
-    ensures { result ≡ columns_of given.now }
-{
-    match given {
-        [] => 0,
-        [first, ..] => first.coefs.len(),
-    }
-}
 
 fn join_given(
     alloc: Global,

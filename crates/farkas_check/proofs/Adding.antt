@@ -5,11 +5,13 @@ use Rattle.std.specs.List.{AllZip, AllByRecursion}
 use Rattle.std.proofs.lemmas.Int.{ints}
 use Rattle.std.proofs.lemmas.Bool.{cases_lt}
 use Rattle.std.proofs.Math.ListN.{drop_of_length-le}
-use Rattle.std.proofs.lemmas.List.{drop_more, get_or_past, get_or-map, get_or-take, get_or-drop, get_or-set_same, get_or-set_other, take_rest, drop_min, take_min}
+use Rattle.std.proofs.lemmas.List.{length-map, drop_more, get_or_past, get_or-map, get_or-take, get_or-drop, get_or-set_same, get_or-set_other, take_rest, drop_min, take_min}
 use Rattle.std.proofs.lemmas.List.Elements.{All-get_or, All-from_get_or, All-take, All-drop, recursion_from_All}
 use Rattle.lin_terms.specs.declared.row.Row.{Row}
 use Rattle.lin_terms.specs.Vectors.{dot}
 use Rattle.lin_terms.specs.Row.{IsNarrow, IsNarrowRow, columns_of, HaveOneLength}
+use Rattle.lin_terms.proofs.Dots.{get_or-zeros}
+use Rattle.lin_terms.proofs.Entries.{get_or_all}
 use Rattle.farkas_check.specs.Refutes.{column, constants, MayMultiply, Refutes}
 use Rattle.farkas_check.proofs.Wide.{unsigned_abs-product, unsigned_abs-sum}
 
@@ -32,14 +34,6 @@ pub summed_all : (ms xs : List ℤ) (i : ℕ) (sum all : ℤ) → length ms ≤ 
 summed_all ms xs i sum all past so_far =
     let at_end = rw (drop_of_length-le ms past) at so_far in omega (arith, ints)
 
-length-constants : (rows : List Row) → length (constants rows) ≡ length rows
-length-constants [] = refl
-length-constants (row ∷ rows) = ap suc (length-constants rows)
-
-length-column : (j : ℕ) (rows : List Row) → length (column j rows) ≡ length rows
-length-column j [] = refl
-length-column j (row ∷ rows) = ap suc (length-column j rows)
-
 -- ---- the constants
 
 pub constant_summed : (ms : List ℤ) (rows : List Row) (i : ℕ) (row : Row) (sum product all : ℤ) → length ms ≡ length rows
@@ -48,7 +42,7 @@ pub constant_summed : (ms : List ℤ) (rows : List Row) (i : ℕ) (row : Row) (s
     → (sum +ℤ product) +ℤ dot (drop (i + 1) ms) (drop (i + 1) (constants rows)) ≡ all
 constant_summed ms rows i row sum product all as_many below is made so_far =
     let at_row : get_or (constants rows) i (pos 0) ≡ row.constant = get_or-map (λ (r : Row). r.constant) rows i row (pos 0) below ∙ ap (λ (r : Row). r.constant) (sym is) in
-    summed ms (constants rows) i sum product all (omega arith) (omega (arith, length-constants rows))
+    summed ms (constants rows) i sum product all (omega arith) (omega (arith, length-map rows (λ (r : Row). r.constant)))
     (made ∙ ap (λ z. get_or ms i (pos 0) *ℤ z) (sym at_row)) so_far
 
 -- ---- the signs
@@ -83,16 +77,11 @@ entries_left sums before i v left k past = get_or-set_other sums i k v (pos 0) (
 
 -- ---- the sums of a block of columns
 
-zeros_at : (n k : ℕ) → get_or (replicate n (pos 0)) k (pos 0) ≡ pos 0
-zeros_at zero k = refl
-zeros_at (suc n) zero = refl
-zeros_at (suc n) (suc k) = zeros_at n k
-
 pub zeros_sum : (n k : ℕ) (all : ℤ) → get_or (replicate n (pos 0)) k (pos 0) +ℤ all ≡ all
-zeros_sum n k all = rw (zeros_at n k) (omega (arith, ints))
+zeros_sum n k all = rw (get_or-zeros n k) (omega (arith, ints))
 
 pub zeros_bound : (n k : ℕ) → unsigned_abs (get_or (replicate n (pos 0)) k (pos 0)) ≤ 0
-zeros_bound n k = rw (zeros_at n k) (omega arith)
+zeros_bound n k = rw (get_or-zeros n k) (omega arith)
 
 narrow_row : (rows : List Row) (i : ℕ) (row : Row) → i < length rows → row ≡ get_or rows i row → All IsNarrowRow rows → IsNarrowRow row
 narrow_row rows i row below is narrow = subst IsNarrowRow (sym is) (narrow i row below)
@@ -103,9 +92,7 @@ narrow_block rows i first row below is narrow =
     All-take IsNarrow 32 (drop first row.coefs) (All-drop IsNarrow first row.coefs (narrow_row rows i row below is narrow).coefs)
 
 narrow_entry : (entries : List ℤ) (k : ℕ) → All IsNarrow entries → IsNarrow (get_or entries k (pos 0))
-narrow_entry entries k narrow =
-    ⊎_elim (λ (h : k < length entries). All-get_or IsNarrow entries k (pos 0) h narrow)
-    (λ (h : length entries ≤ k). rw (get_or_past entries k (pos 0) h) (lit< tt)) (cases_lt k (length entries))
+narrow_entry entries k narrow = get_or_all IsNarrow entries k (pos 0) (lit< tt) (recursion_from_All IsNarrow entries narrow)
 
 pub block_bound : (i k : ℕ) (m old new : ℤ) (entries : List ℤ) → IsNarrow m → All IsNarrow entries
     → new ≡ old +ℤ (m *ℤ get_or entries k (pos 0)) → unsigned_abs old ≤ i * 2 ^ 112 → unsigned_abs new ≤ (i + 1) * 2 ^ 112
@@ -130,7 +117,7 @@ block_summed ms rows i first k row old new all as_many below is in_block made so
     let at_row : get_or (column j rows) i (pos 0) ≡ get_or row.coefs j (pos 0) = get_or-map (λ (r : Row). get_or r.coefs j (pos 0)) rows i row (pos 0) below ∙ ap (λ (r : Row). get_or r.coefs j (pos 0)) (sym is) in
     let m : ℤ = get_or ms i (pos 0) in
     let product : ℤ = m *ℤ get_or (take 32 (drop first row.coefs)) k (pos 0) in
-    rw made (summed ms (column j rows) i old product all (omega arith) (omega (arith, length-column j rows))
+    rw made (summed ms (column j rows) i old product all (omega arith) (omega (arith, length-map rows (λ (r : Row). get_or r.coefs j (pos 0))))
     (ap (λ z. m *ℤ z) (entry_at row.coefs first k in_block ∙ sym at_row)) so_far)
 
 -- ---- all columns

@@ -10,7 +10,7 @@ use Rattle.lin_terms.specs.Vectors.{dot, plus, scaled}
 use Rattle.lin_terms.specs.Row.{Allows, Holds, Meets, HasNoPoint, HasNoIntegerPoint}
 use Rattle.lin_terms.proofs.Ring.{as_dif, same_dif, difs}
 use Rattle.lin_terms.proofs.Signs.{nonneg_add, nonneg_mul}
-use Rattle.lin_terms.proofs.Dots.{dot-plus, dot-scaled, get_or-plus, get_or-scaled}
+use Rattle.lin_terms.proofs.Dots.{dot-plus, dot-scaled, get_or-plus, get_or-scaled, dot-zeros}
 use Rattle.farkas_check.specs.Refutes.{column, constants, MayMultiply, Refutes}
 
 -- the coefficients of the rows times their multipliers, added up row by row
@@ -26,12 +26,6 @@ get_or-combination (m ∷ ms) (row ∷ rows) j =
     get_or-plus (scaled m row.coefs) (combination ms rows) j
     ∙ ap (λ t. t +ℤ get_or (combination ms rows) j (pos 0)) (get_or-scaled m row.coefs j)
     ∙ ap (λ t. (m *ℤ get_or row.coefs j (pos 0)) +ℤ t) (get_or-combination ms rows j)
-
--- coefficients that are all 0
-dot-zeros : (coefs numbers : List ℤ) → ((j : ℕ) → get_or coefs j (pos 0) ≡ pos 0) → dot coefs numbers ≡ pos 0
-dot-zeros [] numbers zeros = refl
-dot-zeros (c ∷ coefs) [] zeros = refl
-dot-zeros (c ∷ coefs) (x ∷ numbers) zeros = rw (zeros 0, dot-zeros coefs numbers (λ j. zeros (suc j))) (omega (arith, ints))
 
 -- the value of a row's left side at a point
 abbrev value : List ℤ → ℤ → Row → ℤ

@@ -1,10 +1,10 @@
 //! The check: one walk over the rows for each block of columns.
 ghost use Rattle.std.specs.Prelude.{◌≡◌, ◌↔◌, pos, All, IsTrue};
-ghost use Rattle.lin_terms.specs.Row.{columns_of, HasNoPoint, HasNoIntegerPoint};
+ghost use Rattle.lin_terms.specs.Row.{HasNoPoint, HasNoIntegerPoint};
 ghost use Rattle.farkas_check.specs.Refutes.{MayMultiply, Refutes, RefutesBlock, IsCheckable};
 
 use crate::sums::{WIDTH, add_entries, block, product};
-use lin_terms::Row;
+use lin_terms::{Row, columns_of};
 
 fn may_multiply(row: &Row, multiplier: &i128) -> bool
     ensures { IsTrue result ↔ MayMultiply row.now multiplier.now }
@@ -16,16 +16,6 @@ fn are_zeros(sums: &[i128]) -> bool
     ensures { IsTrue result ↔ All (λ sum. sum ≡ pos 0) sums.now }
 {
     sums.iter().all(|sum| *sum == 0)
-}
-
-/// The number of columns of rows of one length.
-pub fn columns_of(rows: &[Row]) -> usize
-    ensures { result ≡ columns_of rows.now }
-{
-    match rows {
-        [] => 0,
-        [first, ..] => first.coefs.len(),
-    }
 }
 
 /// Whether the multipliers may multiply their rows, and the sum of the rows has a constant of at most -1 and zeros in the

@@ -1,12 +1,10 @@
 //! Rows and multipliers that were worked out by hand.
 ghost use Rattle.std.specs.Prelude.{◌≡◌, ◌↔◌, All, IsTrue};
-ghost use Rattle.lin_terms.specs.Row.{IsNarrow, IsNarrowRow, HaveOneLength};
+ghost use Rattle.lin_terms.specs.Row.{IsNarrow};
 ghost use Rattle.farkas_check.specs.Refutes.{IsCheckable};
 
-use crate::multipliers::columns_of;
 use crate::refutes;
-use lin_terms::Row;
-use sqlite_items::Items;
+use lin_terms::{Row, are_narrow_rows, have_one_length};
 use std::alloc::{AllocError, Global};
 use std::process::Abort;
 use std::test::Fail;
@@ -14,32 +12,68 @@ use std::test::Fail;
 /// 2^56 - 1, the greatest entry and the greatest multiplier.
 const MOST: i64 = (1 << 56) - 1;
 
-fn row(alloc: Global, coefs: &[i64], constant: i64, equality: bool) -> Result<Row, AllocError> {
-    let coefs = Items::from_slice(alloc, coefs)?;
-    Ok(Row {
-        coefs,
-        constant,
-        equality,
-    })
-}
+/// Coefficients, constant and whether it is an equality.
+type Entries = (&'static [i64], i64, bool);
 
-fn is_narrow_row(row: &Row) -> bool
-    ensures { IsTrue result ↔ IsNarrowRow row.now }
-{
-    row.constant.unsigned_abs() < 1 << 56 && are_narrow_entries(row.coefs.as_slice())
-}
-
-fn are_narrow_entries(entries: &[i64]) -> bool
-    ensures { IsTrue result ↔ All IsNarrow entries.now }
-{
-    entries.iter().all(|entry| entry.unsigned_abs() < 1 << 56)
-}
-
-fn are_narrow_rows(rows: &[Row]) -> bool
-    ensures { IsTrue result ↔ All IsNarrowRow rows.now }
-{
-    rows.iter().all(is_narrow_row)
-}
+/// Rows, their multipliers, and whether these refute them.
+const SYSTEMS: [(&[Entries], &[i128], bool); 22] = [
+    (&[], &[], false),
+    // x - 1 >= 0 and -x >= 0
+    (&[(&[1], -1, false), (&[-1], 0, false)], &[1, 1], true),
+    (&[(&[1], -1, false), (&[-1], 0, false)], &[7, 7], true),
+    (&[(&[1], -1, false), (&[-1], 0, false)], &[1, 2], false),
+    (&[(&[1], -1, false), (&[-1], 0, false)], &[0, 0], false),
+    // x >= 0 and -x >= 0, which 0 meets
+    (&[(&[1], 0, false), (&[-1], 0, false)], &[1, 1], false),
+    // x + 1 and x with -1 and 1: the first has to be an equality
+    (&[(&[1], 1, false), (&[1], 0, false)], &[-1, 1], false),
+    (&[(&[1], 1, true), (&[1], 0, false)], &[-1, 1], true),
+    (&[(&[1], 1, false), (&[1], 0, true)], &[-1, 1], false),
+    // rows without variables
+    (&[(&[], -1, false)], &[1], true),
+    (&[(&[], 0, false)], &[1], false),
+    (&[(&[], 5, true)], &[-1], true),
+    (&[(&[], 5, true)], &[1], false),
+    (&[(&[0, 0], -3, false)], &[2], true),
+    // each column counts
+    (&[(&[1, 0], -1, false)], &[1], false),
+    (&[(&[0, 1], -1, false)], &[1], false),
+    // x = y and 2y - 2x >= 1, then 2x - 2y >= 1
+    (&[(&[1, -1], 0, true), (&[-2, 2], -1, false)], &[2, 1], true),
+    (
+        &[(&[1, -1], 0, true), (&[2, -2], -1, false)],
+        &[-2, 1],
+        true,
+    ),
+    // 3x - 2y >= 1, 3x + y <= 2 and y >= 0, with x <= 0, then with x >= 1
+    (
+        &[
+            (&[3, -2], -1, false),
+            (&[-3, -1], 2, false),
+            (&[0, 1], 0, false),
+            (&[-1, 0], 0, false),
+        ],
+        &[1, 0, 2, 3],
+        true,
+    ),
+    (
+        &[
+            (&[3, -2], -1, false),
+            (&[-3, -1], 2, false),
+            (&[0, 1], 0, false),
+            (&[1, 0], -1, false),
+        ],
+        &[0, 1, 1, 3],
+        true,
+    ),
+    // 2^32 x - 1 >= 0: 64 bits would lose the product
+    (&[(&[1 << 32], -1, false)], &[1 << 32], false),
+    (
+        &[(&[MOST], -MOST, false), (&[-MOST], 0, false)],
+        &[MOST as i128, MOST as i128],
+        true,
+    ),
+];
 
 fn are_narrow(multipliers: &[i128]) -> bool
     ensures { IsTrue result ↔ All IsNarrow multipliers.now }
@@ -49,18 +83,10 @@ fn are_narrow(multipliers: &[i128]) -> bool
         .all(|multiplier| multiplier.unsigned_abs() < 1 << 56)
 }
 
-fn have_one_length(rows: &[Row]) -> bool
-    ensures { IsTrue result ↔ HaveOneLength rows.now }
-{
-    let columns = columns_of(rows);
-    rows.iter().all(|row| row.coefs.len() == columns)
-}
-
-/// Coefficients, constant and whether it is an equality, for each row.
-fn rows_of(alloc: Global, given: &[(&[i64], i64, bool)]) -> Result<Vec<Row>, AllocError> {
+fn rows_of(alloc: Global, given: &[Entries]) -> Result<Vec<Row>, AllocError> {
     let mut made = Vec::new(alloc);
     for (coefs, constant, equality) in given {
-        made.push(row(alloc, coefs, *constant, *equality)?)?;
+        made.push(Row::new(alloc, coefs, *constant, *equality)?)?;
     }
     Ok(made)
 }
@@ -84,66 +110,7 @@ fn answer(rt: &impl Abort, rows: &[Row], multipliers: &[i128]) -> bool {
 #[test]
 fn small_rows(rt: HostRuntime) -> Result<(), Fail> {
     let alloc = rt.alloc();
-    // Rows, their multipliers, and whether these refute them.
-    let rows: [(&[(&[i64], i64, bool)], &[i128], bool); 22] = [
-        (&[], &[], false),
-        // x - 1 >= 0 and -x >= 0
-        (&[(&[1], -1, false), (&[-1], 0, false)], &[1, 1], true),
-        (&[(&[1], -1, false), (&[-1], 0, false)], &[7, 7], true),
-        (&[(&[1], -1, false), (&[-1], 0, false)], &[1, 2], false),
-        (&[(&[1], -1, false), (&[-1], 0, false)], &[0, 0], false),
-        // x >= 0 and -x >= 0, which 0 meets
-        (&[(&[1], 0, false), (&[-1], 0, false)], &[1, 1], false),
-        // x + 1 and x with -1 and 1: the first has to be an equality
-        (&[(&[1], 1, false), (&[1], 0, false)], &[-1, 1], false),
-        (&[(&[1], 1, true), (&[1], 0, false)], &[-1, 1], true),
-        (&[(&[1], 1, false), (&[1], 0, true)], &[-1, 1], false),
-        // rows without variables
-        (&[(&[], -1, false)], &[1], true),
-        (&[(&[], 0, false)], &[1], false),
-        (&[(&[], 5, true)], &[-1], true),
-        (&[(&[], 5, true)], &[1], false),
-        (&[(&[0, 0], -3, false)], &[2], true),
-        // each column counts
-        (&[(&[1, 0], -1, false)], &[1], false),
-        (&[(&[0, 1], -1, false)], &[1], false),
-        // x = y and 2y - 2x >= 1, then 2x - 2y >= 1
-        (&[(&[1, -1], 0, true), (&[-2, 2], -1, false)], &[2, 1], true),
-        (
-            &[(&[1, -1], 0, true), (&[2, -2], -1, false)],
-            &[-2, 1],
-            true,
-        ),
-        // 3x - 2y >= 1, 3x + y <= 2 and y >= 0, with x <= 0, then with x >= 1
-        (
-            &[
-                (&[3, -2], -1, false),
-                (&[-3, -1], 2, false),
-                (&[0, 1], 0, false),
-                (&[-1, 0], 0, false),
-            ],
-            &[1, 0, 2, 3],
-            true,
-        ),
-        (
-            &[
-                (&[3, -2], -1, false),
-                (&[-3, -1], 2, false),
-                (&[0, 1], 0, false),
-                (&[1, 0], -1, false),
-            ],
-            &[0, 1, 1, 3],
-            true,
-        ),
-        // 2^32 x - 1 >= 0: 64 bits would lose the product
-        (&[(&[1 << 32], -1, false)], &[1 << 32], false),
-        (
-            &[(&[MOST], -MOST, false), (&[-MOST], 0, false)],
-            &[MOST as i128, MOST as i128],
-            true,
-        ),
-    ];
-    for (given, multipliers, want) in rows {
+    for (given, multipliers, want) in SYSTEMS {
         let made = rows_of(alloc, given)?;
         let got = answer(&rt, made.as_slice(), multipliers);
         assert_eq!(rt; got, want, "{made:?} with {multipliers:?}");
@@ -162,7 +129,7 @@ fn many_rows_and_columns(rt: HostRuntime) -> Result<(), Fail> {
             let mut coefs = vec![in alloc; 0; columns]?;
             let _ = coefs.pop();
             coefs.push(if i % 2 == 0 { MOST } else { -MOST })?;
-            rows.push(row(alloc, coefs.as_slice(), -MOST, false)?)?;
+            rows.push(Row::new(alloc, coefs.as_slice(), -MOST, false)?)?;
             multipliers.push(i128::from(MOST))?;
         }
         assert!(rt;

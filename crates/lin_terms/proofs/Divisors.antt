@@ -1,17 +1,18 @@
 -- Greatest common divisors, and entries over a number that divides them.
-use Rattle.std.proofs.Common.{◌≡◌, ℕ, zero, suc, ◌*◌, ◌-◌, ◌<◌, ◌≤◌, ◌%◌, ◌/◌, Bool, true, false, cond, eqb, List, [], ◌∷◌, map, arith, refl, sym, ◌∙◌, ap, subst}
+use Rattle.std.proofs.Common.{◌≡◌, ℕ, zero, suc, ◌*◌, ◌-◌, ◌<◌, ◌≤◌, ◌%◌, ◌/◌, Bool, true, false, cond, eqb, List, [], ◌∷◌, ◌++◌, map, arith, refl, sym, ◌∙◌, ap, subst}
 use Prim.Native.Nat.{◌∣◌}
-use Rattle.std.specs.Prelude.{ℤ, pos, negsuc, neg_ℤ, ◌+ℤ◌, ◌*ℤ◌, ◌-ℤ◌, int_div, unsigned_abs}
+use Rattle.std.specs.Prelude.{ℤ, pos, negsuc, neg_ℤ, ◌+ℤ◌, ◌*ℤ◌, ◌-ℤ◌, int_div, unsigned_abs, All}
 use Rattle.std.specs.Int.{IsGcd}
 use Rattle.std.specs.List.{AllByRecursion}
 use Rattle.std.proofs.lemmas.Int.{ints}
 use Rattle.std.proofs.lemmas.Nat.{mod_below}
-use Rattle.std.proofs.lemmas.Nat.Gcd.{dvd_refl, dvd-zero, dvd_trans, mod-eq-zero_of_dvd, IsGcd-from_zero, IsGcd-from_mod}
+use Rattle.std.proofs.Math.Nat.{dvd-mul_right}
+use Rattle.std.proofs.lemmas.Nat.Gcd.{dvd_refl, dvd-zero, dvd_trans, dvd_antisymm, le_of_dvd, mod-eq-zero_of_dvd, IsGcd-from_zero, IsGcd-from_mod, same_from_IsGcd}
 use Rattle.std.proofs.lemmas.Bool.Decides.{nat_tests}
 use Rattle.std.proofs.lemmas.List.Elements.{All-from_recursion, recursion_from_All}
 use Rattle.lin_terms.specs.Divisor.{gcd_steps, gcd, gcd_with, gcd_of, IsGcdOf, floor_div}
 use Rattle.lin_terms.specs.Vectors.{dot, scaled}
-use Rattle.lin_terms.proofs.Ring.{as_dif, same_dif, difs}
+use Rattle.lin_terms.proofs.Ring.{mul-minus}
 use Rattle.lin_terms.proofs.Dots.{dot-scaled}
 
 -- ---- Euclid's algorithm
@@ -30,6 +31,25 @@ gcd_steps_is (suc n) a b h =
 
 pub gcd_is : (a b : ℕ) → IsGcd a b (gcd a b)
 gcd_is a b = gcd_steps_is b a b (omega arith)
+
+one_divides : (n : ℕ) → 1 ∣ n
+one_divides n = let e : 1 * n ≡ n = omega arith in subst (λ m. 1 ∣ m) e (dvd-mul_right 1 n)
+
+pub one_is : (n : ℕ) → IsGcd 1 n 1
+one_is n = (dvd_refl 1, one_divides n, λ d in_one in_n. in_one)
+
+pub gcd_one : (n : ℕ) → gcd 1 n ≡ 1
+gcd_one n = same_from_IsGcd 1 n (gcd 1 n) 1 (gcd_is 1 n) (one_is n)
+
+-- it is below what both numbers are below
+pub gcd_below : (n a b : ℕ) → a < n → b < n → gcd a b < n
+unfolding gcd_steps
+gcd_below n a zero a_below b_below = a_below
+gcd_below n a (suc b) a_below b_below =
+    let some : 0 < suc b = omega arith in
+    let bound : gcd a (suc b) ≤ suc b = le_of_dvd some (gcd_is a (suc b)).1 in omega arith
+
+-- ---- the divisor of a list
 
 -- the divisor divides the size of each entry
 abbrev pub DividesAll : ℕ → List ℤ → Type 0
@@ -56,6 +76,23 @@ gcd_of_is xs = record {
   divides = All-from_recursion (λ (x : ℤ). gcd_of xs ∣ unsigned_abs x) xs (gcd_of_divides xs);
   greatest = λ d all. gcd_with_greatest d 0 xs (dvd-zero d) (recursion_from_All (λ (x : ℤ). d ∣ unsigned_abs x) xs all);
 }
+
+gcd_with_below : (n g : ℕ) (xs : List ℤ) → g < n → AllByRecursion (λ x. unsigned_abs x < n) xs → gcd_with g xs < n
+gcd_with_below n g [] g_below below = g_below
+gcd_with_below n g (x ∷ xs) g_below below = gcd_with_below n (gcd g (unsigned_abs x)) xs (gcd_below n g (unsigned_abs x) g_below below.0) below.1
+
+pub gcd_of_below : (n : ℕ) (xs : List ℤ) → 0 < n → All (λ x. unsigned_abs x < n) xs → gcd_of xs < n
+gcd_of_below n xs positive below = gcd_with_below n 0 xs positive (recursion_from_All (λ (x : ℤ). unsigned_abs x < n) xs below)
+
+pub gcd_with-append : (g : ℕ) (xs ys : List ℤ) → gcd_with g (xs ++ ys) ≡ gcd_with (gcd_with g xs) ys
+gcd_with-append g [] ys = refl
+gcd_with-append g (x ∷ xs) ys = gcd_with-append (gcd g (unsigned_abs x)) xs ys
+
+-- lists with the same divisors have the same greatest one
+pub same_gcd : (xs ys : List ℤ) → ((d : ℕ) → DividesAll d xs → DividesAll d ys) → ((d : ℕ) → DividesAll d ys → DividesAll d xs) → gcd_of xs ≡ gcd_of ys
+same_gcd xs ys there back =
+    dvd_antisymm (gcd_with_greatest (gcd_of xs) 0 ys (dvd-zero (gcd_of xs)) (there (gcd_of xs) (gcd_of_divides xs)))
+    (gcd_with_greatest (gcd_of ys) 0 xs (dvd-zero (gcd_of ys)) (back (gcd_of ys) (gcd_of_divides ys)))
 
 -- ---- quotients
 
@@ -86,8 +123,7 @@ no_remainder n r (negsuc k) below e = absurd (omega (arith, ints))
 
 difference_step : (g p q r : ℤ) → g *ℤ p ≡ (g *ℤ q) +ℤ r → g *ℤ (p -ℤ q) ≡ r
 difference_step g p q r e =
-    let factored : g *ℤ (p -ℤ q) ≡ (g *ℤ p) -ℤ (g *ℤ q) = rw (as_dif g, as_dif p, as_dif q) (simp difs (same_dif _ _ _ _ (omega arith))) in
-    omega (arith, ints)
+    let factored = mul-minus g p q in omega (arith, ints)
 
 -- the quotient by a number that divides is exact
 pub exact_quotient : (n : ℕ) (x : ℤ) → suc n ∣ unsigned_abs x → pos (suc n) *ℤ floor_div x (suc n) ≡ x

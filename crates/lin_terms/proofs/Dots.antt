@@ -1,7 +1,9 @@
 -- Dot products.
-use Rattle.std.proofs.Common.{◌≡◌, ℕ, zero, suc, List, [], ◌∷◌, arith, refl, ◌∙◌, ap, length, get_or}
+use Rattle.std.proofs.Common.{◌≡◌, ℕ, zero, suc, Bool, true, List, [], ◌∷◌, arith, refl, ◌∙◌, ap, length, get_or, replicate}
 use Rattle.std.specs.Prelude.{ℤ, pos, ◌+ℤ◌, ◌*ℤ◌}
+use Rattle.std.specs.List.{list_all}
 use Rattle.std.proofs.lemmas.Int.{ints}
+use Rattle.std.proofs.lemmas.Bool.{and_parts}
 use Rattle.lin_terms.specs.Vectors.{dot, plus, scaled}
 use Rattle.lin_terms.proofs.Ring.{as_dif, same_dif, difs}
 
@@ -44,3 +46,25 @@ pub get_or-scaled : (k : ℤ) (xs : List ℤ) (j : ℕ) → get_or (scaled k xs)
 get_or-scaled k [] j = omega (arith, ints)
 get_or-scaled k (x ∷ xs) zero = refl
 get_or-scaled k (x ∷ xs) (suc j) = get_or-scaled k xs j
+
+-- ---- entries that are all 0
+
+-- where each passes a test that only 0 passes
+pub zero_entries : (test : ℤ → Bool) → ((x : ℤ) → test x ≡ true → x ≡ pos 0) → (xs : List ℤ) → list_all test xs ≡ true
+    → (j : ℕ) → get_or xs j (pos 0) ≡ pos 0
+zero_entries test is_zero [] all j = refl
+zero_entries test is_zero (x ∷ xs) all zero = is_zero x (and_parts (test x) (list_all test xs) all).0
+zero_entries test is_zero (x ∷ xs) all (suc j) = zero_entries test is_zero xs (and_parts (test x) (list_all test xs) all).1 j
+
+pub get_or-zeros : (n j : ℕ) → get_or (replicate n (pos 0)) j (pos 0) ≡ pos 0
+get_or-zeros zero j = refl
+get_or-zeros (suc n) zero = refl
+get_or-zeros (suc n) (suc j) = get_or-zeros n j
+
+pub dot-zeros : (xs values : List ℤ) → ((j : ℕ) → get_or xs j (pos 0) ≡ pos 0) → dot xs values ≡ pos 0
+dot-zeros [] values zeros = refl
+dot-zeros (x ∷ xs) [] zeros = refl
+dot-zeros (x ∷ xs) (v ∷ values) zeros = rw (zeros 0, dot-zeros xs values (λ j. zeros (suc j))) (omega (arith, ints))
+
+pub dot-replicate : (n : ℕ) (values : List ℤ) → dot (replicate n (pos 0)) values ≡ pos 0
+dot-replicate n values = dot-zeros (replicate n (pos 0)) values (get_or-zeros n)

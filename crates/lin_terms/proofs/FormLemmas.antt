@@ -1,15 +1,14 @@
 -- The values of forms.
-use Rattle.std.proofs.Common.{◌≡◌, ◌↔◌, ℕ, zero, suc, ◌<◌, Bool, true, false, cond, ◌&&◌, eqb, Some, None, IsTrue, sym, length, List, [], ◌∷◌, get_or, set, replicate, refl, ap, ◌∙◌, arith}
+use Rattle.std.proofs.Common.{◌≡◌, ◌↔◌, ℕ, zero, suc, ◌<◌, Bool, true, false, cond, ◌&&◌, eqb, Some, None, IsTrue, sym, List, [], ◌∷◌, get_or, set, replicate, refl, ap, ◌∙◌, arith}
 use Rattle.std.specs.Prelude.{ℤ, pos, negsuc, ◌+ℤ◌, ◌*ℤ◌, unsigned_abs, Decides}
 use Rattle.lin_terms.specs.Narrow.{is_narrow, are_narrow, narrow}
-use Rattle.std.specs.List.{list_all}
 use Rattle.std.proofs.lemmas.Int.{ints}
 use Rattle.std.proofs.lemmas.Bool.Decides.{nat_tests}
 use Rattle.lin_terms.specs.declared.form.Form.{Form}
 use Rattle.lin_terms.specs.Vectors.{dot, plus, scaled}
 use Rattle.lin_terms.specs.Form.{value_at, sum_of, multiple_of, constant_form, variable_form, is_constant}
-use Rattle.lin_terms.proofs.Ring.{as_dif, same_dif, difs}
-use Rattle.lin_terms.proofs.Dots.{dot-plus, dot-scaled}
+use Rattle.lin_terms.proofs.Ring.{mul-plus}
+use Rattle.lin_terms.proofs.Dots.{dot-plus, dot-scaled, zero_entries, dot-zeros, dot-replicate}
 
 swapped : (a b c d : ℤ) → (a +ℤ b) +ℤ (c +ℤ d) ≡ (a +ℤ c) +ℤ (b +ℤ d)
 swapped a b c d = omega (arith, ints)
@@ -17,37 +16,16 @@ swapped a b c d = omega (arith, ints)
 pub value_at-sum_of : (x y : Form) (values : List ℤ) → value_at (sum_of x y) values ≡ value_at x values +ℤ value_at y values
 value_at-sum_of x y values = rw (dot-plus x.coefs y.coefs values) (swapped (dot x.coefs values) (dot y.coefs values) x.constant y.constant)
 
-factored : (k s c : ℤ) → (k *ℤ s) +ℤ (k *ℤ c) ≡ k *ℤ (s +ℤ c)
-factored k s c = rw (as_dif k, as_dif s, as_dif c) (simp difs (same_dif _ _ _ _ (omega arith)))
-
 pub value_at-multiple_of : (k : ℤ) (x : Form) (values : List ℤ) → value_at (multiple_of k x) values ≡ k *ℤ value_at x values
-value_at-multiple_of k x values = rw (dot-scaled k x.coefs values) (factored k (dot x.coefs values) x.constant)
+value_at-multiple_of k x values = rw (dot-scaled k x.coefs values) (sym (mul-plus k (dot x.coefs values) x.constant))
 
 zero_entry : (z : ℤ) → eqb (unsigned_abs z) 0 ≡ true → z ≡ pos 0
 zero_entry (pos n) e = ap pos (grind (arith, nat_tests))
 zero_entry (negsuc n) e = absurd (grind (arith, nat_tests))
 
-and_both : (a b : Bool) → (a && b) ≡ true → (a ≡ true) × (b ≡ true)
-and_both true b e = (refl, e)
-and_both false b e = absurd cc
-
-nothing_added : (v s : ℤ) → s ≡ pos 0 → (pos 0 *ℤ v) +ℤ s ≡ pos 0
-nothing_added v s e = omega (arith, ints)
-
-dot-zeros : (xs values : List ℤ) → list_all (λ entry. eqb (unsigned_abs entry) 0) xs ≡ true → dot xs values ≡ pos 0
-dot-zeros [] values e = refl
-dot-zeros (x ∷ xs) [] e = refl
-dot-zeros (x ∷ xs) (v ∷ values) e =
-    let both = and_both (eqb (unsigned_abs x) 0) (list_all (λ entry. eqb (unsigned_abs entry) 0) xs) e in
-    rw (zero_entry x both.0) (nothing_added v (dot xs values) (dot-zeros xs values both.1))
-
 pub value_at-constant : (form : Form) (values : List ℤ) → is_constant form ≡ true → value_at form values ≡ form.constant
-value_at-constant form values e = rw (dot-zeros form.coefs values e) (omega (arith, ints))
-
-pub dot-replicate : (n : ℕ) (values : List ℤ) → dot (replicate n (pos 0)) values ≡ pos 0
-dot-replicate zero values = refl
-dot-replicate (suc n) [] = refl
-dot-replicate (suc n) (v ∷ values) = nothing_added v (dot (replicate n (pos 0)) values) (dot-replicate n values)
+value_at-constant form values e =
+    rw (dot-zeros form.coefs values (zero_entries (λ entry. eqb (unsigned_abs entry) 0) zero_entry form.coefs e)) (omega (arith, ints))
 
 pub value_at-constant_form : (n : ℕ) (z : ℤ) (values : List ℤ) → value_at (constant_form n z) values ≡ z
 value_at-constant_form n z values = rw (dot-replicate n values) (omega (arith, ints))
@@ -94,10 +72,6 @@ narrow_constant : (b c : Bool) (f : Form) → b ≡ true → c ≡ true → cond
 narrow_constant true true f e g = refl
 narrow_constant true false f e g = absurd cc
 narrow_constant false c f e g = absurd cc
-
-pub length-zeros : (n : ℕ) → length (replicate n (pos 0)) ≡ n
-length-zeros zero = refl
-length-zeros (suc n) = ap suc (length-zeros n)
 
 all_zeros-narrow : (n : ℕ) → are_narrow (replicate n (pos 0)) ≡ true
 all_zeros-narrow zero = refl

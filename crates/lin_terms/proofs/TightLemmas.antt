@@ -5,15 +5,16 @@ use Rattle.std.specs.Prelude.{ℤ, pos, negsuc, ◌+ℤ◌, ◌*ℤ◌, ◌≤�
 use Rattle.std.proofs.Math.Nat.{dvd-mul_right}
 use Rattle.std.proofs.lemmas.Nat.Gcd.{dvd_of_mod-eq-zero, mod-eq-zero_of_dvd}
 use Rattle.std.proofs.lemmas.Int.{ints, unsigned_abs-mul}
+use Rattle.std.proofs.lemmas.Bool.{and_parts, not-true, eqb-false}
 use Rattle.std.proofs.lemmas.Bool.Decides.{nat_tests}
 use Rattle.lin_terms.specs.declared.row.Row.{Row}
 use Rattle.lin_terms.specs.Vectors.{dot}
 use Rattle.lin_terms.specs.Divisor.{gcd_of, floor_div}
 use Rattle.lin_terms.specs.Row.{Allows, Holds}
 use Rattle.lin_terms.specs.Tight.{never_row, divided_row, is_unsolvable, tight_by, tight_of, HaveSameSolutions}
-use Rattle.lin_terms.proofs.Ring.{as_dif, same_dif, difs}
+use Rattle.lin_terms.proofs.Ring.{as_dif, same_dif, difs, mul-plus}
 use Rattle.lin_terms.proofs.Signs.{nonneg_add, nonneg_mul, zero_factor}
-use Rattle.lin_terms.proofs.FormLemmas.{dot-replicate}
+use Rattle.lin_terms.proofs.Dots.{dot-replicate}
 use Rattle.lin_terms.proofs.Divisors.{DividesAll, gcd_of_divides, floor_div_is, exact_quotient, dot-quotients}
 
 -- `0 ≤ g t + r` exactly where `0 ≤ t`, for a remainder r
@@ -35,14 +36,11 @@ inequality_iff n d c =
     let e = factored (pos (suc n)) d q (pos found.0) ∙ ap (λ z. (pos (suc n) *ℤ d) +ℤ z) (sym found.2) in
     subst (λ z. (pos 0 ≤ℤ (d +ℤ q)) ↔ (pos 0 ≤ℤ z)) e (rounded_iff n found.0 (d +ℤ q) found.1)
 
-exactly_factored : (g d q : ℤ) → g *ℤ (d +ℤ q) ≡ (g *ℤ d) +ℤ (g *ℤ q)
-exactly_factored g d q = rw (as_dif g, as_dif d, as_dif q) (simp difs (same_dif _ _ _ _ (omega arith)))
-
 equality_iff : (n : ℕ) (d c : ℤ) → suc n ∣ unsigned_abs c → (d +ℤ floor_div c (suc n) ≡ pos 0) ↔ ((pos (suc n) *ℤ d) +ℤ c ≡ pos 0)
 equality_iff n d c h =
     let g : ℤ = pos (suc n) in
     let q : ℤ = floor_div c (suc n) in
-    let e = exactly_factored g d q ∙ ap (λ z. (g *ℤ d) +ℤ z) (exact_quotient n c h) in
+    let e = mul-plus g d q ∙ ap (λ z. (g *ℤ d) +ℤ z) (exact_quotient n c h) in
     (λ p. sym e ∙ ap (λ z. g *ℤ z) p ∙ omega (arith, ints), λ p. zero_factor n (d +ℤ q) (e ∙ p))
 
 opposite_sizes : (a b : ℤ) → a +ℤ b ≡ pos 0 → unsigned_abs b ≡ unsigned_abs a
@@ -58,14 +56,6 @@ never_row_fails : (columns : ℕ) (values : List ℤ) → Holds values (never_ro
 never_row_fails columns values holds =
     let e = subst (λ z. pos 0 ≤ℤ (z +ℤ negsuc 0)) (dot-replicate columns values) holds in e.le
 
-both_true : (b t : Bool) → (b && not t) ≡ true → (b ≡ true) × (t ≡ false)
-both_true true true e = (refl, sym e)
-both_true true false e = (refl, refl)
-both_true false t e = cc
-
-not_zero : (m : ℕ) → eqb m 0 ≡ false → m ≡ 0 → ⊥
-not_zero m e f = grind (arith, nat_tests)
-
 -- rows that are divided
 divided_iff : (b : Bool) (n : ℕ) (d c : ℤ) → (b && not (eqb (unsigned_abs c % suc n) 0)) ≡ false
     → Allows b (d +ℤ floor_div c (suc n)) ↔ Allows b ((pos (suc n) *ℤ d) +ℤ c)
@@ -77,11 +67,12 @@ divided_iff false n d c e = inequality_iff n d c
 unsolvable_iff : (n : ℕ) (row : Row) (values : List ℤ) → is_unsolvable (suc n) row ≡ true → DividesAll (suc n) row.coefs
     → Holds values (never_row (length row.coefs)) ↔ Holds values row
 unsolvable_iff n row values e h =
-    let p = both_true row.equality (eqb (unsigned_abs row.constant % suc n) 0) e in
+    let p = and_parts row.equality (not (eqb (unsigned_abs row.constant % suc n) 0)) e in
+    let not_divided = not-true (eqb (unsigned_abs row.constant % suc n) 0) p.1 in
     let d : ℤ = dot (map (λ x. floor_div x (suc n)) row.coefs) values in
     let g : ℤ = pos (suc n) in (
       λ m. absurd (never_row_fails (length row.coefs) values m),
-      λ m. absurd (not_zero (unsigned_abs row.constant % suc n) p.1 (divides_constant n d row.constant (rw (dot-quotients n row.coefs values h) (subst (λ b. Allows b (dot row.coefs values +ℤ row.constant)) p.0 m)))),
+      λ m. absurd (eqb-false (unsigned_abs row.constant % suc n) 0 not_divided (divides_constant n d row.constant (rw (dot-quotients n row.coefs values h) (subst (λ b. Allows b (dot row.coefs values +ℤ row.constant)) p.0 m)))),
     )
 
 solvable_iff : (n : ℕ) (row : Row) (values : List ℤ) → is_unsolvable (suc n) row ≡ false → DividesAll (suc n) row.coefs

@@ -4,10 +4,14 @@ ghost use Rattle.std.specs.Int.{IsGcd};
 ghost use Rattle.lin_terms.specs.Divisor.{gcd, gcd_of, IsGcdOf, floor_div};
 
 /// The greatest common divisor, by Euclid's algorithm. Of 0 and 0 it is 0.
-fn gcd(mut a: u64, mut b: u64) -> u64
+pub fn gcd(mut a: u128, mut b: u128) -> u128
     ensures exact { result ≡ gcd a b }
     ensures greatest { IsGcd a b result }
 {
+    // Most lists of numbers come to 1 soon, and then no number is divided any more.
+    if a == 1 {
+        return 1;
+    }
     while b != 0 {
         let remainder = a % b;
         a = b;
@@ -23,9 +27,9 @@ pub fn gcd_of(xs: &[i64]) -> u64
 {
     let mut g = 0;
     for x in xs {
-        g = gcd(g, x.unsigned_abs());
+        g = gcd(g, u128::from(x.unsigned_abs()));
     }
-    g
+    g as u64
 }
 
 /// `x` over the divisor, rounded down. A divisor of 2^63 is fine, and so is `i64::MIN` over 1.

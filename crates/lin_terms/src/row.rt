@@ -2,8 +2,9 @@
 //!
 //! Whole numbers that meet `4x - 6y + 3 >= 0` meet the tight row `2x - 3y + 1 >= 0`, since `2x - 3y` is a whole number
 //! and at least -3/2. No whole numbers meet `4x - 6y + 3 = 0`, since `4x - 6y` is even.
-ghost use Rattle.std.specs.Prelude.{◌≡◌, ◌<◌, unsigned_abs, map, IfOk};
+ghost use Rattle.std.specs.Prelude.{◌≡◌, ◌<◌, ◌↔◌, unsigned_abs, map, All, IsTrue, IfOk};
 ghost use Rattle.lin_terms.specs.Divisor.{floor_div};
+ghost use Rattle.lin_terms.specs.Row.{IsNarrow, IsNarrowRow, HaveOneLength, columns_of};
 ghost use Rattle.lin_terms.specs.Tight.{never_row, divided_row, is_unsolvable, tight_of, HaveSameSolutions};
 
 use crate::divisor::{floor_div, gcd_of};
@@ -16,6 +17,62 @@ pub struct Row {
     pub coefs: Items<i64>,
     pub constant: i64,
     pub equality: bool,
+}
+
+impl Row {
+    /// The row with these coefficients, by number of their variables.
+    pub fn new(
+        alloc: Global,
+        coefs: &[i64],
+        constant: i64,
+        equality: bool,
+    ) -> Result<Row, AllocError>
+        ensures { IfOk result (λ row. row ≡ record { coefs = coefs.now; constant = constant; equality = equality }) }
+    {
+        let coefs = Items::from_slice(alloc, coefs)?;
+        Ok(Row {
+            coefs,
+            constant,
+            equality,
+        })
+    }
+}
+
+/// The number of columns of rows of one length: as many as the first has, and 0 where there is no row.
+pub fn columns_of(rows: &[Row]) -> usize
+    ensures { result ≡ columns_of rows.now }
+{
+    match rows {
+        [] => 0,
+        [first, ..] => first.coefs.len(),
+    }
+}
+
+/// Whether all rows have the same number of columns.
+pub fn have_one_length(rows: &[Row]) -> bool
+    ensures { IsTrue result ↔ HaveOneLength rows.now }
+{
+    let columns = columns_of(rows);
+    rows.iter().all(|row| row.coefs.len() == columns)
+}
+
+fn are_narrow(entries: &[i64]) -> bool
+    ensures { IsTrue result ↔ All IsNarrow entries.now }
+{
+    entries.iter().all(|entry| entry.unsigned_abs() < 1 << 56)
+}
+
+fn is_narrow_row(row: &Row) -> bool
+    ensures { IsTrue result ↔ IsNarrowRow row.now }
+{
+    row.constant.unsigned_abs() < 1 << 56 && are_narrow(row.coefs.as_slice())
+}
+
+/// Whether all entries of the rows are below 2^56 in size.
+pub fn are_narrow_rows(rows: &[Row]) -> bool
+    ensures { IsTrue result ↔ All IsNarrowRow rows.now }
+{
+    rows.iter().all(is_narrow_row)
 }
 
 fn is_unsolvable(divisor: u64, row: &Row) -> bool
@@ -63,8 +120,7 @@ fn divided_row(alloc: Global, row: &Row, divisor: u64) -> Result<Row, AllocError
 fn copy(alloc: Global, row: &Row) -> Result<Row, AllocError>
     ensures { IfOk result (λ made. made ≡ row.now) }
 {
-    let coefs = Items::from_slice(alloc, row.coefs.as_slice())?;
-    Ok(Row { coefs, ..*row })
+    Row::new(alloc, row.coefs.as_slice(), row.constant, row.equality)
 }
 
 fn made_tight(alloc: Global, row: &Row) -> Result<Row, AllocError>

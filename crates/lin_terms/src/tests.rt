@@ -1,5 +1,8 @@
 //! Forms and tight rows whose entries were worked out by hand.
-use crate::{Form, FormFault, Row, add, constant_form, scale, tight, variable_form};
+use crate::{
+    Form, FormFault, Row, add, are_narrow_rows, columns_of, constant_form, gcd, have_one_length,
+    scale, tight, variable_form,
+};
 use sqlite_items::Items;
 use std::alloc::{AllocError, Global};
 use std::test::Fail;
@@ -84,44 +87,97 @@ fn constants_and_variables(rt: HostRuntime) -> Result<(), Fail> {
     Ok(())
 }
 
+/// Coefficients, constant and whether it is an equality, and these of the tight row.
+const TIGHT: [(&[i64], i64, bool, &str); 16] = [
+    (&[2, -4], 3, false, "[1, -2] 1 false"),
+    (&[2, -4], -3, false, "[1, -2] -2 false"),
+    (&[2, -4], 3, true, "[0, 0] -1 false"),
+    (&[2, -4], -4, true, "[1, -2] -2 true"),
+    (&[6, 0, -9], 0, true, "[2, 0, -3] 0 true"),
+    (&[-6, 4], 5, false, "[-3, 2] 2 false"),
+    (&[3, 5], -7, false, "[3, 5] -7 false"),
+    (&[0, 7], 7, false, "[0, 1] 1 false"),
+    (&[0, -7], -1, false, "[0, -1] -1 false"),
+    (&[], 5, true, "[] 5 true"),
+    (&[0, 0], -5, true, "[0, 0] -5 true"),
+    (&[0], -2, false, "[0] -2 false"),
+    (&[i64::MIN, 0], i64::MAX, false, "[-1, 0] 0 false"),
+    (&[i64::MIN], -1, false, "[-1] -1 false"),
+    (&[i64::MIN], i64::MIN, true, "[-1] -1 true"),
+    (
+        &[i64::MIN, 1],
+        i64::MIN,
+        false,
+        "[-9223372036854775808, 1] -9223372036854775808 false",
+    ),
+];
+
 #[test]
 fn tight_rows(rt: HostRuntime) -> Result<(), Fail> {
     let alloc = rt.alloc();
-    // Coefficients, constant and whether it is an equality, and these of the tight row.
-    let rows: [(&[i64], i64, bool, &str); 16] = [
-        (&[2, -4], 3, false, "[1, -2] 1 false"),
-        (&[2, -4], -3, false, "[1, -2] -2 false"),
-        (&[2, -4], 3, true, "[0, 0] -1 false"),
-        (&[2, -4], -4, true, "[1, -2] -2 true"),
-        (&[6, 0, -9], 0, true, "[2, 0, -3] 0 true"),
-        (&[-6, 4], 5, false, "[-3, 2] 2 false"),
-        (&[3, 5], -7, false, "[3, 5] -7 false"),
-        (&[0, 7], 7, false, "[0, 1] 1 false"),
-        (&[0, -7], -1, false, "[0, -1] -1 false"),
-        (&[], 5, true, "[] 5 true"),
-        (&[0, 0], -5, true, "[0, 0] -5 true"),
-        (&[0], -2, false, "[0] -2 false"),
-        (&[i64::MIN, 0], i64::MAX, false, "[-1, 0] 0 false"),
-        (&[i64::MIN], -1, false, "[-1] -1 false"),
-        (&[i64::MIN], i64::MIN, true, "[-1] -1 true"),
-        (
-            &[i64::MIN, 1],
-            i64::MIN,
-            false,
-            "[-9223372036854775808, 1] -9223372036854775808 false",
-        ),
-    ];
-    for (xs, constant, equality, want) in rows {
-        let coefs = Items::from_slice(alloc, xs)?;
-        let row = Row {
-            coefs,
-            constant,
-            equality,
-        };
+    for (xs, constant, equality, want) in TIGHT {
+        let row = Row::new(alloc, xs, constant, equality)?;
         let made = tight(alloc, &row)?;
         let coefs = made.coefs.as_slice();
         let got = format!(in alloc; "{coefs:?} {} {}", made.constant, made.equality)?;
         assert_eq!(rt; got.as_str(), want, "{xs:?} {constant} {equality}");
+    }
+    Ok(())
+}
+
+#[test]
+fn divisors(rt: HostRuntime) -> Result<(), Fail> {
+    for (a, b, want) in [
+        (0, 0, 0),
+        (0, 7, 7),
+        (7, 0, 7),
+        (1, 0, 1),
+        (1, 9, 1),
+        (12, 18, 6),
+        (17, 5, 1),
+        (1 << 100, 3 << 98, 1 << 98),
+        (u128::MAX, u128::MAX, u128::MAX),
+    ] {
+        assert_eq!(rt; gcd(a, b), want, "{a} and {b}");
+    }
+    Ok(())
+}
+
+/// 2^56, the least entry that is wide in a row.
+const WIDE_IN_ROWS: i64 = 1 << 56;
+
+/// Coefficients and constant of each row, how many columns there are, whether the rows have one length, and whether they
+/// are narrow.
+const SHAPES: [(&[(&'static [i64], i64)], usize, bool, bool); 7] = [
+    (&[], 0, true, true),
+    (&[(&[], 1)], 0, true, true),
+    (&[(&[1, 2], 0), (&[0, 0], 3)], 2, true, true),
+    (&[(&[1, 2], 0), (&[1], 0)], 2, false, true),
+    (
+        &[(&[1 - WIDE_IN_ROWS], WIDE_IN_ROWS - 1), (&[], 0)],
+        1,
+        false,
+        true,
+    ),
+    (&[(&[0], 0), (&[-WIDE_IN_ROWS], 0)], 1, true, false),
+    (&[(&[0], WIDE_IN_ROWS)], 1, true, false),
+];
+
+#[test]
+fn shapes_of_rows(rt: HostRuntime) -> Result<(), Fail> {
+    let alloc = rt.alloc();
+    for (given, columns, one_length, narrow) in SHAPES {
+        let mut made = Vec::new(alloc);
+        for (coefs, constant) in given {
+            made.push(Row::new(alloc, coefs, *constant, false)?)?;
+        }
+        let rows = made.as_slice();
+        let got = (
+            columns_of(rows),
+            have_one_length(rows),
+            are_narrow_rows(rows),
+        );
+        assert_eq!(rt; got, (columns, one_length, narrow), "{rows:?}");
     }
     Ok(())
 }

@@ -7,7 +7,8 @@ use Rattle.elimination.specs.Joining.{joined_each, list_of}
 use Rattle.elimination.specs.Eliminated.{eliminate}
 use Rattle.elimination.specs.Outcome.{IsOutcome}
 use Rattle.elimination.proofs.Uniform.{uniform_next}
-use Rattle.elimination.proofs.Ending.{stops_there, next_column}
+use Rattle.elimination.proofs.Stepping.{stops_there}
+use Rattle.elimination.proofs.Ending.{next_column}
 use Rattle.elimination.proofs.verdict.eliminate.Goals as goal
 
 pub returns-in_err-eliminate_column : goal.returns-in_err-eliminate_column

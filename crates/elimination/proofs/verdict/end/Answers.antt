@@ -8,7 +8,7 @@ use Rattle.elimination.specs.Joining.{joined_each, list_of}
 use Rattle.elimination.specs.Eliminated.{initial, eliminate}
 use Rattle.elimination.specs.Outcome.{IsOutcome}
 use Rattle.elimination.proofs.Uniform.{uniform_start}
-use Rattle.elimination.proofs.Ending.{stops_there}
+use Rattle.elimination.proofs.Stepping.{stops_there}
 use Rattle.elimination.proofs.verdict.end.Goals as goal
 
 pub returns-in_err-start : goal.returns-in_err-start

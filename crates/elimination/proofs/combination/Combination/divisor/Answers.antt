@@ -1,13 +1,19 @@
-use Rattle.std.proofs.Common.{◌∙◌, ◌∷◌, ap, List}
-use Rattle.std.specs.Prelude.{ℤ}
-use Rattle.lin_terms.specs.Divisor.{gcd_of, gcd_with}
+use Rattle.std.proofs.Common.{rules, ◌∙◌, ◌∷◌, ap, List, FitsSigned}
+use Rattle.std.specs.Prelude.{ℤ, unsigned_abs}
+use Rattle.std.specs.Int.{w128}
+use Rattle.std.proofs.lemmas.Int.{to_z-of_z}
+use Rattle.lin_terms.specs.Divisor.{gcd, gcd_of, gcd_with}
 use Rattle.elimination.specs.Combination.{Combination}
 use Rattle.elimination.specs.Joining.{numbers_of}
 use Rattle.elimination.proofs.combination.Combination.divisor.Goals as goal
 
 pub returns : goal.returns
 returns c =
+    let constant : ℤ = c.self.inside.constant in
+    let coefs : List ℤ = c.self.inside.coefs in
+    let fits : FitsSigned w128 constant = search rules in
     let start = c.gcd_of_numbers-coefs.ensures
-    ∙ ap (λ (xs : List ℤ). gcd_with c.gcd_with_size-constant.result xs) c.as_slice.ensures
-    ∙ ap (λ g. gcd_with g c.self.inside.coefs) c.gcd_with_size-constant.ensures in
-    c.gcd_with.ensures (c.self.inside.constant ∷ c.self.inside.coefs) start ∙ ap (λ (row : Combination). gcd_of (numbers_of row)) c.self.view_is
+    ∙ ap (λ (xs : List ℤ). gcd_with c.gcd-constant.result xs) c.as_slice.ensures
+    ∙ ap (λ g. gcd_with g coefs) c.gcd-constant.ensures.exact
+    ∙ ap (λ n. gcd_with (gcd 0 n) coefs) (c.unsigned_abs.ensures.value ∙ ap unsigned_abs (to_z-of_z w128 constant fits)) in
+    c.gcd_with.ensures (constant ∷ coefs) start ∙ ap (λ (row : Combination). gcd_of (numbers_of row)) c.self.view_is
