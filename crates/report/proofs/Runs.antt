@@ -6,7 +6,7 @@ use Rattle.std.proofs.lemmas.Bool.Decides.{nat_tests}
 use Rattle.std.proofs.lemmas.List.{append_assoc}
 use Rattle.std.proofs.lemmas.List.Elements.{All-nil, All-cons, All-head, All-tail}
 use Rattle.report.specs.Indexes.{with_run, runs, run_text, runs_text}
-use Rattle.report.specs.Laws.{rising, numbers_of, AreApart, AreRunsOf, HasRuns}
+use Rattle.report.specs.Laws.{rising, numbers_of, AreApart, AreRunsOf, HasRuns, HasNoOtherRuns}
 
 -- ---- a run before others, as the text tells it
 
@@ -109,3 +109,41 @@ are_runs (index ∷ indexes) =
       apart = apart-with_run index (runs indexes) later.apart;
       rising = rise-with_run index (runs indexes) later.rising;
     }
+
+-- ---- no other runs
+
+-- The first run does not go on from a run with this last number.
+abbrev IsApartFrom : ℕ → List (ℕ × ℕ) → Type 0
+IsApartFrom last [] = Unit {0}
+IsApartFrom last (next ∷ more) = next.0 ≢ suc last
+
+apart_parts : (run : ℕ × ℕ) (all : List (ℕ × ℕ)) → AreApart (run ∷ all) → IsApartFrom run.1 all × AreApart all
+apart_parts run [] apart = (tt, tt)
+apart_parts run (next ∷ all) apart = apart
+
+-- Successive numbers before a list whose runs do not go on from them are one more run.
+runs-rising : (count first last : ℕ) (indexes : List ℕ) (all : List (ℕ × ℕ)) → last ≡ first + count → runs indexes ≡ all → IsApartFrom last all
+    → runs (rising first (suc count) ++ indexes) ≡ (first, last) ∷ all
+runs-rising zero first last indexes [] ends is apart =
+    let one : last ≡ first = omega arith in
+    rw (is, one) refl
+runs-rising zero first last indexes (next ∷ all) ends is apart =
+    let one : last ≡ first = omega arith in
+    let elsewhere : eqb next.0 (suc first) ≡ false = grind (arith, nat_tests) in
+    rw (is, elsewhere, one) refl
+runs-rising (suc count) first last indexes all ends is apart =
+    let later = runs-rising count (suc first) last indexes all (omega arith) is apart in
+    let goes_on : eqb (suc first) (suc first) ≡ true = grind (arith, nat_tests) in
+    rw (later, goes_on) refl
+
+runs-written : (all : List (ℕ × ℕ)) → AreApart all → All (λ (run : ℕ × ℕ). run.0 ≤ run.1) all → runs (flat_map numbers_of all) ≡ all
+runs-written [] apart rise = refl
+runs-written (run ∷ more) apart rise =
+    let parts = apart_parts run more apart in
+    let head = All-head (λ (run : ℕ × ℕ). run.0 ≤ run.1) run more rise in
+    let later = runs-written more parts.1 (All-tail (λ (run : ℕ × ℕ). run.0 ≤ run.1) run more rise) in
+    let count : suc run.1 - run.0 ≡ suc (run.1 - run.0) = omega arith in
+    rw count (runs-rising (run.1 - run.0) run.0 run.1 (flat_map numbers_of more) more (omega arith) later parts.0)
+
+pub no_other_runs : HasNoOtherRuns
+no_other_runs indexes all are = sym (ap runs (sym are.written) ∙ runs-written all are.apart are.rising)

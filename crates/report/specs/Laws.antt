@@ -28,6 +28,10 @@ pub record AreRunsOf (indexes : List ℕ) (all : List (ℕ × ℕ)) : Type 0 whe
 abbrev pub HasRuns : Type 0
 HasRuns = (indexes : List ℕ) → AreRunsOf indexes (runs indexes)
 
+-- No other runs are those of the list.
+abbrev pub HasNoOtherRuns : Type 0
+HasNoOtherRuns = (indexes : List ℕ) (all : List (ℕ × ℕ)) → AreRunsOf indexes all → all ≡ runs indexes
+
 -- An index is told for a cause exactly if the sample there has it.
 abbrev pub TellsCause : Type 0
 TellsCause = (samples : List (Option Skipped)) (cause : Option Skipped) (index : ℕ)

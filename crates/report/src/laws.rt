@@ -1,9 +1,11 @@
 //! Laws of what is told, each a clause of a function that does nothing. `specs/Laws.antt` states them.
-ghost use Rattle.report.specs.Laws.{HasRuns, TellsCause, TellsEachOnce};
+ghost use Rattle.report.specs.Laws.{HasRuns, HasNoOtherRuns, TellsCause, TellsEachOnce};
 
-/// The runs of a list, written out one after the other, are the list again, and none can be longer.
+/// The runs of a list, written out one after the other, are the list again, and none can be longer. No other runs are
+/// so.
 pub fn law_of_runs()
-    ensures { HasRuns }
+    ensures runs { HasRuns }
+    ensures no_other { HasNoOtherRuns }
 {}
 
 /// The index of each sample is told for exactly one cause, which is the sample's.
