@@ -1,0 +1,5 @@
+pub mod Cases
+pub mod FaultCases
+pub mod Runs
+pub mod Joined
+pub mod Told
