@@ -1,14 +1,13 @@
 -- The items that are left when some words were read.
-use Rattle.std.proofs.Common.{◌≡◌, ◌≢◌, ◌<◌, ◌≤◌, ◌+◌, ◌==◌, ◌++◌, ◌&&◌, ℕ, zero, suc, Bool, true, false, List, [], ◌∷◌, map, Option, Some, None, refl, sym, ap, ◌∙◌, true≢false, subst, arith}
-use Rattle.std.specs.Prelude.{codes, bytes_eq, if◌then◌else◌, option_to_list, option_map, option_and_then, is_some}
-use Rattle.std.proofs.lemmas.Bool.Decides.{nat_tests}
+use Rattle.std.proofs.Common.{◌≡◌, ◌≢◌, ◌+◌, ◌++◌, ℕ, suc, Bool, true, false, List, [], ◌∷◌, Option, Some, None, refl, sym, ap, ◌∙◌, subst, arith}
+use Rattle.std.specs.Prelude.{if◌then◌else◌, option_to_list, option_map, is_some}
 use Rattle.command_line.specs.declared.setting.Setting.{Setting}
 use Rattle.command_line.specs.declared.setting.Setting.TheVariants.{Workers, Samples, Marks, Rows, Seed}
 use Rattle.command_line.specs.declared.given.Given.{Given}
 use Rattle.command_line.specs.declared.given.Files.{Files}
 use Rattle.command_line.specs.declared.given.Files.TheVariants as files
 use Rattle.command_line.specs.declared.words.Command.{Command}
-use Rattle.command_line.specs.CommandLine.{Item, alone, given, operand, operands, switches, numbers, place_of, Sets, IsWithin, greatest_of}
+use Rattle.command_line.specs.CommandLine.{Item, alone, given, operand, operands, switches, numbers, Sets, IsWithin}
 use Rattle.command_line.specs.Read.{number_of, put, with_alone, with_number, with_operand, one_more}
 
 -- the names so far
@@ -139,39 +138,48 @@ moved alone now items command workers makes =
     let before = not_before now.alone (switches items) makes.alone_once in
     let none : now.alone ≡ false = before.0 in
     let no_more : switches items ≡ 0 = before.1 in
-    let next : Given = record now { alone = true } in
-    (next, rw none refl, record {
-      alone_once = omega (arith, no_more);
-      sets = λ setting. subst (λ n. Sets setting (option_to_list n ++ numbers setting items) (number_in workers command setting)) (sym (other_numbers setting now true now.files)) (makes.sets setting);
-      names = makes.names;
-    })
+    let next : Given = record now { alone = true } in (
+      next,
+      rw none refl,
+      record {
+        alone_once = omega (arith, no_more);
+        sets = λ setting. subst (λ n. Sets setting (option_to_list n ++ numbers setting items) (number_in workers command setting)) (sym (other_numbers setting now true now.files)) (makes.sets setting);
+        names = makes.names;
+      },
+    )
 moved (given setting number) now items command workers makes =
     let own : Sets setting (option_to_list (number_of setting now) ++ number ∷ numbers setting items) (number_in workers command setting) =
-      subst (λ l. Sets setting (option_to_list (number_of setting now) ++ l) (number_in workers command setting)) (own_numbers setting number items) (makes.sets setting) in
+    subst (λ l. Sets setting (option_to_list (number_of setting now) ++ l) (number_in workers command setting)) (own_numbers setting number items) (makes.sets setting) in
     let none : number_of setting now ≡ None =
-      (sole setting (number_of setting now) number (number_in workers command setting) (numbers setting items) own).0 in
+    (sole setting (number_of setting now) number (number_in workers command setting) (numbers setting items) own).0 in
     let stay = others_stay setting number now in
     let put_alone : (put setting number now).alone ≡ now.alone = stay.0 in
-    let put_files : (put setting number now).files ≡ now.files = stay.1 in
-    (put setting number now, rw none refl, record {
-      alone_once = rw put_alone makes.alone_once;
-      sets = λ other. subst (λ l. Sets other l (number_in workers command other)) (moved_numbers setting other number now items none) (makes.sets other);
-      names = rw put_files makes.names;
-    })
+    let put_files : (put setting number now).files ≡ now.files = stay.1 in (
+      put setting number now,
+      rw none refl,
+      record {
+        alone_once = rw put_alone makes.alone_once;
+        sets = λ other. subst (λ l. Sets other l (number_in workers command other)) (moved_numbers setting other number now items none) (makes.sets other);
+        names = rw put_files makes.names;
+      },
+    )
 moved (operand word) now items command workers makes =
-    let next = moved_names word now.files (operands items) command.first command.second makes.names in
-    (record now { files = next.0 }, ap (option_map (λ more. record now { files = more })) next.1, record {
-      alone_once = makes.alone_once;
-      sets = λ setting. subst (λ n. Sets setting (option_to_list n ++ numbers setting items) (number_in workers command setting)) (sym (other_numbers setting now now.alone next.0)) (makes.sets setting);
-      names = next.2;
-    })
+    let next = moved_names word now.files (operands items) command.first command.second makes.names in (
+      record now { files = next.0 },
+      ap (option_map (λ more. record now { files = more })) next.1,
+      record {
+        alone_once = makes.alone_once;
+        sets = λ setting. subst (λ n. Sets setting (option_to_list n ++ numbers setting items) (number_in workers command setting)) (sym (other_numbers setting now now.alone next.0)) (makes.sets setting);
+        names = next.2;
+      },
+    )
 
 -- the number of an item that is left is in its option's range
 pub item_within : (setting : Setting) (number : ℕ) (now : Given) (items : List Item) (command : Command) (workers : ℕ)
     → Makes now (given setting number ∷ items) command workers → IsWithin setting number
 item_within setting number now items command workers makes =
     let own : Sets setting (option_to_list (number_of setting now) ++ number ∷ numbers setting items) (number_in workers command setting) =
-      subst (λ l. Sets setting (option_to_list (number_of setting now) ++ l) (number_in workers command setting)) (own_numbers setting number items) (makes.sets setting) in
+    subst (λ l. Sets setting (option_to_list (number_of setting now) ++ l) (number_in workers command setting)) (own_numbers setting number items) (makes.sets setting) in
     (sole setting (number_of setting now) number (number_in workers command setting) (numbers setting items) own).1
 
 switched : (before : Bool) (now next : Given) → now.alone ≡ before → (if before then None else Some (record now { alone = true })) ≡ Some next

@@ -3,3 +3,4 @@ pub mod WordKinds
 pub mod Left
 pub mod Steps
 pub mod Whole
+pub mod Samples

@@ -1,5 +1,5 @@
 -- One word: what it leaves to be read, both ways.
-use Rattle.std.proofs.Common.{◌≡◌, ◌<◌, ℕ, List, [], ◌∷◌, map, Option, Some, None, refl, sym, ap, ◌∙◌, subst, arith}
+use Rattle.std.proofs.Common.{◌≡◌, ◌<◌, ℕ, List, ◌∷◌, map, Option, Some, None, refl, sym, ap, ◌∙◌, subst, arith}
 use Rattle.std.specs.Prelude.{codes, option_map, option_and_then}
 use Rattle.command_line.specs.declared.setting.Setting.{Setting}
 use Rattle.command_line.specs.declared.setting.Setting.TheVariants.{Workers, Samples, Marks, Rows, Seed}
@@ -8,12 +8,12 @@ use Rattle.command_line.specs.declared.reading.Reading.{Reading}
 use Rattle.command_line.specs.declared.reading.Expects.{Expects}
 use Rattle.command_line.specs.declared.reading.Expects.TheVariants as expects
 use Rattle.command_line.specs.declared.words.Command.{Command}
-use Rattle.command_line.specs.CommandLine.{name_of, Item, alone, given, operand, Writes, IsWithin, Spells, end, dashes, plain, switch, joined, apart}
+use Rattle.command_line.specs.CommandLine.{name_of, Item, alone, given, operand, Writes, IsWithin, Spells, dashes, plain, switch, joined, apart}
 use Rattle.command_line.specs.Read as read
 use Rattle.command_line.specs.Read.{WordKind, kind_of, value_of, with_alone, with_number, with_value, with_operand, reading, word_step, expected_step, step}
 use Rattle.command_line.proofs.Values.{value_writes, written_value}
 use Rattle.command_line.proofs.WordKinds.{kind_of-joined, kind_of-apart, kind_of-operand, KindSays, kind_of-says}
-use Rattle.command_line.proofs.Left.{Makes, with_item, moved, moved_back, item_within}
+use Rattle.command_line.proofs.Left.{Makes, moved, moved_back, item_within}
 
 -- The words spell the items, by what the first word is taken for.
 pub data SpellsFrom : Expects → List (List ℕ) → List Item → Type 0 where
@@ -152,7 +152,7 @@ awaited setting word words now command workers says left = by words left.items l
     by _ _ (at_value _ value number words items writes spells) makes = record {
       items = given setting number ∷ items;
       spells = at_word (word ∷ value ∷ words) (given setting number ∷ items)
-        (subst (λ w. Spells (w ∷ value ∷ words) (given setting number ∷ items)) (sym says) (apart setting value number words items writes spells));
+          (subst (λ w. Spells (w ∷ value ∷ words) (given setting number ∷ items)) (sym says) (apart setting value number words items writes spells));
       makes = makes;
     }
 
@@ -187,7 +187,7 @@ back_word (read.joined setting value) word words now next command workers says s
     record {
       items = given setting back.0 ∷ back.1;
       spells = at_word (word ∷ words) (given setting back.0 ∷ back.1)
-        (subst (λ w. Spells (w ∷ words) (given setting back.0 ∷ back.1)) (sym says) (joined setting value back.0 words back.1 back.2 back.3));
+          (subst (λ w. Spells (w ∷ words) (given setting back.0 ∷ back.1)) (sym says) (joined setting value back.0 words back.1 back.2 back.3));
       makes = back.4;
     }
 back_word (read.apart setting) word words now next command workers says steps left =

@@ -1,10 +1,10 @@
 -- What is read word by word is what the words spell, both ways.
 use Rattle.std.proofs.Common.{◌≡◌, ◌≢◌, ◌≤◌, ◌++◌, ℕ, Bool, true, false, List, [], ◌∷◌, Option, Some, None, refl, sym, ap, ◌∙◌, subst, arith, true≢false}
-use Rattle.std.specs.Prelude.{map, drop, length, get_or, ◌<◌, ◌+◌, String, string_bytes, codes, bytes_eq,  Decides, if◌then◌else◌, option_and_then, option_to_list, nat_le}
+use Rattle.std.specs.Prelude.{map, drop, length, get_or, ◌<◌, ◌+◌, String, string_bytes, codes, bytes_eq, Decides, if◌then◌else◌, option_and_then, option_to_list, nat_le}
 use Rattle.std.proofs.lemmas.Bool.Decides.{nat_tests, Decides-and}
 use Rattle.std.proofs.lemmas.List.{drop_more, drop_all}
 use Rattle.std.proofs.lemmas.Slice.Eq.{bytes_eq-Decides}
-use Rattle.c_ast.specs.Bounds.{Bounds, bounds}
+use Rattle.c_ast.specs.Bounds.{bounds}
 use Rattle.command_line.specs.declared.setting.Setting.{Setting}
 use Rattle.command_line.specs.declared.setting.Setting.TheVariants.{Workers, Samples, Marks, Rows, Seed}
 use Rattle.command_line.specs.declared.given.Given.{Given}
@@ -17,11 +17,11 @@ use Rattle.command_line.specs.declared.words.Command.{Command}
 use Rattle.command_line.specs.declared.words.NoCommand.{NoCommand}
 use Rattle.command_line.specs.declared.words.NoCommand.TheVariants.{Usage, Memory}
 use Rattle.command_line.specs.Refused.{IsNoCommand}
-use Rattle.command_line.specs.CommandLine.{Item, Spells, end, numbers, operands, operand, switches, Sets, IsWithin, least_of, greatest_of, IsCommand, IsOneCommand, dashes, plain, switch, joined, apart}
+use Rattle.command_line.specs.CommandLine.{Item, end, numbers, Sets, IsWithin, least_of, greatest_of, IsCommand, IsOneCommand, dashes, plain, switch, joined, apart}
 use Rattle.command_line.specs.Read.{Refuses, nothing, number_of, reading, start, step, read}
-use Rattle.command_line.specs.Says.{is_within, chosen, chosen_of, command_of, SaysNumbers, Says, IsEnd, Ends}
+use Rattle.command_line.specs.Says.{is_within, chosen, command_of, SaysNumbers, IsEnd, Ends}
 use Rattle.command_line.proofs.Left.{Makes, file_list, count, number_in}
-use Rattle.command_line.proofs.Steps.{SpellsFrom, at_word, at_operand, at_value, IsLeft, Steps, left_steps, steps_left}
+use Rattle.command_line.proofs.Steps.{SpellsFrom, at_word, at_operand, at_value, IsLeft, left_steps, steps_left}
 
 -- ---- all words
 
@@ -92,9 +92,10 @@ command_names (files.Both first second) command is = by (bytes_eq first (codes "
         → (first ∷ second ∷ [] ≡ command.first ∷ command.second ∷ []) × (command.first ≢ codes "make")
     by true make is = absurd cc
     by false make is =
-        let same : record { settings = command.settings; first = first; second = second } ≡ command = cc in
-        (ap (λ (c : Command). c.first ∷ c.second ∷ []) same,
-        λ e. true≢false (sym ((bytes_eq-Decides first (codes "make")).1 (ap (λ (c : Command). c.first) same ∙ e)) ∙ make))
+        let same : record { settings = command.settings; first = first; second = second } ≡ command = cc in (
+          ap (λ (c : Command). c.first ∷ c.second ∷ []) same,
+          λ e. true≢false (sym ((bytes_eq-Decides first (codes "make")).1 (ap (λ (c : Command). c.first) same ∙ e)) ∙ make),
+        )
 
 pub names_command : (now : Files) (command : Command) → file_list now ++ [] ≡ command.first ∷ command.second ∷ [] → command.first ≢ codes "make"
     → command_of command.settings now ≡ Some command
@@ -254,10 +255,10 @@ one_end last one other ends also =
     let rows : one.settings.rows ≡ other.settings.rows = same numbers.rows others.rows in
     let seed : one.settings.seed ≡ other.settings.seed = same numbers.seed others.seed in
     let settings : one.settings ≡ other.settings =
-      ap (λ n. bounds n one.settings.marks one.settings.rows one.settings.seed) samples
-      ∙ ap (λ n. bounds other.settings.samples n one.settings.rows one.settings.seed) marks
-      ∙ ap (λ n. bounds other.settings.samples other.settings.marks n one.settings.seed) rows
-      ∙ ap (λ n. bounds other.settings.samples other.settings.marks other.settings.rows n) seed in
+    ap (λ n. bounds n one.settings.marks one.settings.rows one.settings.seed) samples
+    ∙ ap (λ n. bounds other.settings.samples n one.settings.rows one.settings.seed) marks
+    ∙ ap (λ n. bounds other.settings.samples other.settings.marks n one.settings.seed) rows
+    ∙ ap (λ n. bounds other.settings.samples other.settings.marks other.settings.rows n) seed in
     let files : command_of one.settings last.given.files ≡ Some one = ends.says.files in
     let other_files : command_of other.settings last.given.files ≡ Some other = also.says.files in
     let moved : Some one ≡ Some other = sym files ∙ ap (λ b. command_of b last.given.files) settings ∙ other_files in

@@ -1,5 +1,5 @@
 -- What the kind of a word says of the word.
-use Rattle.std.proofs.Common.{◌≡◌, ◌≢◌, ◌==◌, ◌++◌, ◌||◌, ◌&&◌, append_assoc, ◌+◌, suc, take, drop, ℕ, Bool, true, false, not, List, [], ◌∷◌, Option, Some, None, refl, sym, ap, ◌∙◌, true≢false, subst, arith}
+use Rattle.std.proofs.Common.{◌≡◌, ◌≢◌, ◌==◌, ◌++◌, ◌&&◌, append_assoc, ◌+◌, suc, take, drop, ℕ, Bool, true, false, List, [], ◌∷◌, Option, Some, None, refl, sym, ap, ◌∙◌, true≢false, arith}
 use Rattle.std.specs.Prelude.{codes, bytes_eq, if◌then◌else◌}
 use Rattle.std.specs.List.{list_any, before_first, after_first, position_or_len}
 use Rattle.std.proofs.lemmas.Bool.Decides.{nat_tests}
@@ -7,7 +7,7 @@ use Rattle.std.proofs.lemmas.Slice.Eq.{bytes_eq-Decides}
 use Rattle.command_line.specs.declared.setting.Setting.{Setting}
 use Rattle.command_line.specs.declared.setting.Setting.TheVariants.{Workers, Samples, Marks, Rows, Seed}
 use Rattle.command_line.specs.CommandLine.{IsOperand, name_of}
-use Rattle.command_line.specs.Read.{WordKind, dashes, plain, switch, joined, apart, unknown, is_operand, setting_named, joined_kind, apart_kind, option_kind, kind_of}
+use Rattle.command_line.specs.Read.{WordKind, dashes, plain, switch, joined, apart, unknown, is_operand, setting_named, joined_kind, apart_kind, kind_of}
 
 -- ---- from a word to its kind
 
@@ -110,7 +110,7 @@ kind_of-says word =
     (λ _. by_test word (is_operand word) plain _ (is_operand-says word)
     (λ _. by_test word (bytes_eq word (codes "--alone")) switch _ (same_bytes word (codes "--alone"))
     (λ _. by_test word (list_any (λ b. b == 61) word)
-      (joined_kind (setting_named (before_first (λ b. b == 61) word)) (after_first (λ b. b == 61) word)) (apart_kind (setting_named word))
-      (λ some. joined_kind-says word (before_first (λ b. b == 61) word) (after_first (λ b. b == 61) word) (setting_named (before_first (λ b. b == 61) word))
-        (parts word some) (setting_named-says (before_first (λ b. b == 61) word)))
-      (λ _. apart_kind-says word (setting_named word) (setting_named-says word)))))
+    (joined_kind (setting_named (before_first (λ b. b == 61) word)) (after_first (λ b. b == 61) word)) (apart_kind (setting_named word))
+    (λ some. joined_kind-says word (before_first (λ b. b == 61) word) (after_first (λ b. b == 61) word) (setting_named (before_first (λ b. b == 61) word))
+    (parts word some) (setting_named-says (before_first (λ b. b == 61) word)))
+    (λ _. apart_kind-says word (setting_named word) (setting_named-says word)))))

@@ -1,5 +1,5 @@
 -- What words that were read say.
-use Rattle.std.specs.Prelude.{◌≡◌, bytes_eq, List, ℕ, Bool, true, nat_le, ◌&&◌, if◌then◌else◌, Option, Some, None, codes}
+use Rattle.std.specs.Prelude.{◌≡◌, bytes_eq, ℕ, Bool, true, nat_le, ◌&&◌, if◌then◌else◌, Option, Some, None, codes}
 use Rattle.c_ast.specs.Bounds.{Bounds}
 use Rattle.command_line.specs.declared.setting.Setting.{Setting}
 use Rattle.command_line.specs.declared.setting.Setting.TheVariants.{Workers, Samples, Marks, Rows, Seed}

@@ -9,7 +9,7 @@ use crate::kind::value;
 use crate::setting::Setting;
 use crate::words::{Command, NoCommand};
 use c_ast::{Name, Settings};
-use std::alloc::{AllocError, Global};
+use std::alloc::Global;
 
 /// The operands so far.
 #[derive(Drop)]
@@ -87,25 +87,29 @@ impl Given {
         if self.alone {
             None
         } else {
-            Some(Given { alone: true, ..self })
+            Some(Given {
+                alone: true,
+                ..self
+            })
         }
     }
 
     /// The same with the option's number; `None` where the option stood before.
-    pub(crate) fn with_number(self, setting: Setting, number: u64) -> Option<Given>
+    pub(crate) fn with_number(mut self, setting: Setting, number: u64) -> Option<Given>
         ensures { result ≡ with_number setting number self }
     {
         if self.number(setting).is_some() {
             return None;
         }
         let number = Some(number);
-        Some(match setting {
-            Setting::Workers => Given { workers: number, ..self },
-            Setting::Samples => Given { samples: number, ..self },
-            Setting::Marks => Given { marks: number, ..self },
-            Setting::Rows => Given { rows: number, ..self },
-            Setting::Seed => Given { seed: number, ..self },
-        })
+        match setting {
+            Setting::Workers => self.workers = number,
+            Setting::Samples => self.samples = number,
+            Setting::Marks => self.marks = number,
+            Setting::Rows => self.rows = number,
+            Setting::Seed => self.seed = number,
+        }
+        Some(self)
     }
 
     /// The same with the option's value; `None` where the word writes no number, or the option stood before.

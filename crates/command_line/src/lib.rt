@@ -7,8 +7,8 @@ mod given;
 mod kind;
 mod reading;
 mod setting;
-
-
+#[cfg(test)]
+mod tests;
 mod words;
 
 pub use words::{Command, NoCommand, one_command, read_command};

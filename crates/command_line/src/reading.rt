@@ -34,10 +34,13 @@ impl Reading {
     pub(crate) fn start() -> Reading
         ensures { result ≡ start }
     {
-        Reading {
-            given: Given::nothing(),
-            expects: Expects::Word,
-        }
+        Reading::new(Given::nothing(), Expects::Word)
+    }
+
+    fn new(given: Given, expects: Expects) -> Reading
+        ensures { result ≡ reading expects given }
+    {
+        Reading { given, expects }
     }
 
     /// After one more word.
@@ -50,10 +53,7 @@ impl Reading {
             Expects::Value(setting) => expecting_word(self.given.with_value(setting, word)),
             Expects::Operand => {
                 let given = self.given.with_operand(alloc, word)?;
-                Ok(Reading {
-                    given,
-                    expects: Expects::Operand,
-                })
+                Ok(Reading::new(given, Expects::Operand))
             }
         }
     }
@@ -70,43 +70,31 @@ impl Reading {
     }
 }
 
-// The state in which options are still met.
+// Goes on with what was given, where options are still met; a refusal where nothing was.
 fn expecting_word(given: Option<Given>) -> Result<Reading, NoCommand>
     ensures ok { IfOk result (λ next. option_map (reading Word) given ≡ Some next) }
     ensures refused { IfErr result (Refuses (given ≡ None)) }
 {
     match given {
-        Some(given) => Ok(Reading {
-            given,
-            expects: Expects::Word,
-        }),
+        Some(given) => Ok(Reading::new(given, Expects::Word)),
         None => Err(NoCommand::Usage),
     }
 }
 
-// After a word where options are still met.
+// After one more word, where options are still met.
 fn after_word(given: Given, alloc: Global, word: &str) -> Result<Reading, NoCommand>
     ensures ok { IfOk result (λ next. word_step (kind_of word.now) word.now given ≡ Some next) }
     ensures refused { IfErr result (Refuses (word_step (kind_of word.now) word.now given ≡ None)) }
 {
     match kind_of(word) {
-        Kind::Dashes => Ok(Reading {
-            given,
-            expects: Expects::Operand,
-        }),
+        Kind::Dashes => Ok(Reading::new(given, Expects::Operand)),
         Kind::Operand => {
             let given = given.with_operand(alloc, word)?;
-            Ok(Reading {
-                given,
-                expects: Expects::Word,
-            })
+            Ok(Reading::new(given, Expects::Word))
         }
         Kind::Alone => expecting_word(given.with_alone()),
         Kind::Joined(setting, value) => expecting_word(given.with_value(setting, value)),
-        Kind::Apart(setting) => Ok(Reading {
-            given,
-            expects: Expects::Value(setting),
-        }),
+        Kind::Apart(setting) => Ok(Reading::new(given, Expects::Value(setting))),
         Kind::Unknown => Err(NoCommand::Usage),
     }
 }

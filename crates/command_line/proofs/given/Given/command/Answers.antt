@@ -1,4 +1,3 @@
-use Rattle.command_line.specs.Says.{Says, SaysNumbers}
 use Rattle.command_line.proofs.given.Given.command.Goals as goal
 
 pub returns-in-None-clause-none : goal.returns-in-None-clause-none
