@@ -1,0 +1,45 @@
+//! What the words of a command line say.
+ghost use Rattle.std.specs.Prelude.{◌≡◌, map, string_bytes, IfOk, IfErr};
+ghost use Rattle.command_line.specs.CommandLine.{IsCommand, IsOneCommand};
+ghost use Rattle.command_line.specs.Refused.{IsNoCommand};
+
+use crate::reading::Reading;
+use c_ast::{Name, Settings};
+use std::alloc::{AllocError, Global};
+
+/// What a command line says: the settings, and the names of two files.
+#[derive(Debug, Drop)]
+pub struct Command {
+    pub settings: Settings,
+    pub first: Name,
+    pub second: Name,
+}
+
+/// Why there is no command.
+#[derive(Clone, Copy, Debug, PartialEq, Eq)]
+pub enum NoCommand {
+    /// The words are no command line.
+    Usage,
+    /// Memory ran out.
+    Memory,
+}
+
+/// What the words say, where they are a command line.
+pub fn read_command(alloc: Global, words: &[String]) -> Result<Command, NoCommand>
+    ensures command { IfOk result (IsCommand (map string_bytes words.now)) }
+    ensures refused { IfErr result (IsNoCommand (map string_bytes words.now)) }
+{
+    let mut reading = Reading::start();
+    for word in words {
+        reading = reading.step(alloc, word.as_str())?;
+    }
+    match reading.command() {
+        Some(command) => Ok(command),
+        None => Err(NoCommand::Usage),
+    }
+}
+
+/// A law: words are one command line at most.
+pub fn one_command()
+    ensures { IsOneCommand }
+{}
