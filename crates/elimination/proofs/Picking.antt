@@ -8,7 +8,7 @@ use Rattle.elimination.proofs.Found.{not_found, found}
 none_picked_here : (j : ℕ) (row : Combination) (rows : List Combination) → is_pivot j row ≡ false → pivot_of j rows ≡ None → pivot_of j (row ∷ rows) ≡ None
 none_picked_here j row rows fails later = rw fails (ap (behind row) later)
 
-pub projected_pairs : (j : ℕ) (rows : List Combination) (found : Option ℕ) → found ≡ position (is_pivot j) rows → found ≡ None
+pub projected_pairs : (j : ℕ) (rows : List Combination) (place : Option ℕ) → place ≡ position (is_pivot j) rows → place ≡ None
     → projected j rows ≡ without j rows ++ pairs j (lower_bounds j rows) (upper_bounds j rows)
 projected_pairs j rows place is none =
     ap (λ picked. projected_by j rows picked) (not_found (is_pivot j) (λ rs. pivot_of j rs ≡ None) refl (none_picked_here j) rows (sym is ∙ none))
@@ -23,7 +23,7 @@ picked_here j row rows is d = rw is refl
 picked_later : (j place : ℕ) (row : Combination) (rows : List Combination) → is_pivot j row ≡ false → IsPickedAt j place rows → IsPickedAt j (suc place) (row ∷ rows)
 picked_later j place row rows fails later d = rw fails (ap (behind row) (later d))
 
-pub projected_reduced : (j : ℕ) (rows : List Combination) (pivot : Combination) (found : Option ℕ) (at : ℕ) → found ≡ position (is_pivot j) rows → found ≡ Some at
+pub projected_reduced : (j : ℕ) (rows : List Combination) (pivot : Combination) (place : Option ℕ) (at : ℕ) → place ≡ position (is_pivot j) rows → place ≡ Some at
     → pivot ≡ get_or rows at pivot → projected j rows ≡ map (reduced j pivot) (take at rows ++ drop (at + 1) rows)
 projected_reduced j rows pivot place at is some there =
     let next : suc at ≡ at + 1 = omega arith in

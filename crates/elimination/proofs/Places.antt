@@ -24,7 +24,7 @@ none_parallel_here : (row earlier : Combination) (rows : List Combination) → i
     → placed (earlier ∷ rows) row ≡ earlier ∷ (rows ++ row ∷ [])
 none_parallel_here row earlier rows fails later = rw fails (ap (λ t. earlier ∷ t) later)
 
-pub placed_last : (rows : List Combination) (row : Combination) (found : Option ℕ) → found ≡ position (λ earlier. is_parallel earlier row) rows → found ≡ None
+pub placed_last : (rows : List Combination) (row : Combination) (place : Option ℕ) → place ≡ position (λ earlier. is_parallel earlier row) rows → place ≡ None
     → placed rows row ≡ rows ++ row ∷ []
 placed_last rows row place is none =
     not_found (λ earlier. is_parallel earlier row) (λ rs. placed rs row ≡ rs ++ row ∷ []) refl (none_parallel_here row) rows (sym is ∙ none)
@@ -41,7 +41,7 @@ placed_later : (row : Combination) (place : ℕ) (earlier : Combination) (rows :
 placed_later row place earlier rows fails later = rw fails (ap (λ t. earlier ∷ t) later)
 
 -- the earlier row that stands there
-placed_at : (rows : List Combination) (row earlier : Combination) (found : Option ℕ) (at : ℕ) → found ≡ position (λ earlier. is_parallel earlier row) rows → found ≡ Some at
+placed_at : (rows : List Combination) (row earlier : Combination) (place : Option ℕ) (at : ℕ) → place ≡ position (λ earlier. is_parallel earlier row) rows → place ≡ Some at
     → earlier ≡ get_or rows at earlier → (placed rows row ≡ set rows at (tighter earlier row)) × (earlier ≡ get_or rows at row)
 placed_at rows row earlier place at is some there =
     let here = sym is ∙ some in
@@ -50,13 +50,13 @@ placed_at rows row earlier place at is some there =
     let placed_there = found (λ earlier. is_parallel earlier row) (IsPlacedAt row) (placed_here row) (placed_later row) rows at here in
     (placed_there ∙ ap (λ r. set rows at (tighter r row)) (sym earlier_is), earlier_is)
 
-pub placed_instead : (rows : List Combination) (row earlier : Combination) (found : Option ℕ) (at : ℕ) (test : Bool)
-    → found ≡ position (λ earlier. is_parallel earlier row) rows → found ≡ Some at → earlier ≡ get_or rows at earlier
+pub placed_instead : (rows : List Combination) (row earlier : Combination) (place : Option ℕ) (at : ℕ) (test : Bool)
+    → place ≡ position (λ earlier. is_parallel earlier row) rows → place ≡ Some at → earlier ≡ get_or rows at earlier
     → int_lt row.row.constant earlier.row.constant ≡ test → placed rows row ≡ cond test (set rows at row) rows
-placed_instead rows row earlier found at true is some there less =
-    (placed_at rows row earlier found at is some there).0 ∙ ap (λ t. set rows at (cond t row earlier)) less
-placed_instead rows row earlier found at false is some there less =
-    let placed_there = placed_at rows row earlier found at is some there in
+placed_instead rows row earlier place at true is some there less =
+    (placed_at rows row earlier place at is some there).0 ∙ ap (λ t. set rows at (cond t row earlier)) less
+placed_instead rows row earlier place at false is some there less =
+    let placed_there = placed_at rows row earlier place at is some there in
     placed_there.0 ∙ ap (λ t. set rows at (cond t row earlier)) less ∙ ap (λ r. set rows at r) placed_there.1 ∙ set-get_or rows at row
 
 -- ---- narrow rows

@@ -1,5 +1,5 @@
 -- Sums that are made one row after the other, and the columns that blocks of sums cover.
-use Rattle.std.proofs.Common.{lit<, ◌≡◌, ◌↔◌, ℕ, zero, suc, ◌+◌, ◌-◌, ◌*◌, ◌<◌, ◌≤◌, ◌^◌, List, [], ◌∷◌, arith, refl, sym, ap, subst, length, get_or, set, take, drop, min, replicate, ◌∙◌, ⊎_elim}
+use Rattle.std.proofs.Common.{lit<, ◌≡◌, ◌↔◌, ℕ, ◌+◌, ◌-◌, ◌*◌, ◌<◌, ◌≤◌, ◌^◌, List, [], ◌∷◌, arith, refl, sym, ap, subst, length, get_or, set, take, drop, min, replicate, ◌∙◌, ⊎_elim}
 use Rattle.std.specs.Prelude.{ℤ, pos, negsuc, ◌≤ℤ◌, ◌+ℤ◌, ◌*ℤ◌, unsigned_abs, All}
 use Rattle.std.specs.List.{AllZip, AllByRecursion}
 use Rattle.std.proofs.lemmas.Int.{ints}
