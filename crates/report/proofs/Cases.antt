@@ -1,5 +1,5 @@
 -- Texts of small lists and answers, by computing.
-use Rattle.std.proofs.Common.{◌≡◌, List, [], ◌∷◌, refl, pos, negsuc, None}
+use Rattle.std.proofs.Common.{◌≡◌, [], ◌∷◌, refl, pos, negsuc, None}
 use Rattle.std.specs.Prelude.{codes}
 use Rattle.c_ast.specs.declared.place.Side.TheVariants.{A, B}
 use Rattle.graph_run.specs.declared.skip.Skip.TheVariants.{NotEnded, Wide}

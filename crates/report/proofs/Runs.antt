@@ -6,7 +6,7 @@ use Rattle.std.proofs.lemmas.Bool.Decides.{nat_tests}
 use Rattle.std.proofs.lemmas.List.{append_assoc}
 use Rattle.std.proofs.lemmas.List.Elements.{All-nil, All-cons, All-head, All-tail}
 use Rattle.report.specs.Indexes.{with_run, runs, run_text, runs_text}
-use Rattle.report.specs.Laws.{rising, numbers_of, AreApart, AreRunsOf, HasRuns, HasNoOtherRuns}
+use Rattle.report.specs.Laws.{rising, numbers_of, AreApart, HasRuns, HasNoOtherRuns}
 
 -- ---- a run before others, as the text tells it
 

@@ -1,6 +1,6 @@
 -- The laws of what is told of samples.
-use Rattle.std.proofs.Common.{◌≡◌, ◌≢◌, ℕ, zero, suc, ◌+◌, ◌<◌, Bool, true, false, cond, List, [], ◌∷◌, length, get_or, arith, refl, ap, sym, ◌∙◌, inl, inr, ◌⊎◌, ⊎_elim, subst, ◌&&◌, Option, Some, None}
-use Rattle.std.specs.Prelude.{All, Contains, slice_get, codes}
+use Rattle.std.proofs.Common.{◌≡◌, ◌≢◌, ℕ, zero, suc, ◌+◌, Bool, true, false, cond, List, [], ◌∷◌, get_or, arith, refl, ap, sym, ◌∙◌, inl, inr, ◌⊎◌, ⊎_elim, subst, ◌&&◌, Option, Some, None}
+use Rattle.std.specs.Prelude.{Contains, slice_get, codes}
 use Rattle.std.proofs.lemmas.Option.{slice_get-get_or, same_Some}
 use Rattle.std.proofs.lemmas.List.Elements.{All-get_or}
 use Rattle.c_ast.specs.declared.place.Side.{Side}
@@ -8,8 +8,8 @@ use Rattle.c_ast.specs.declared.place.Side.TheVariants.{A, B}
 use Rattle.graph_run.specs.declared.skip.Skip.{Skip}
 use Rattle.graph_run.specs.declared.skip.Skip.TheVariants.{NotEnded, Wide, Memory}
 use Rattle.trace_pair.specs.declared.skipped.Skipped.{Skipped}
-use Rattle.report.specs.Samples.{IsKeptSample, is_side, is_why, is_same, indexes_from, indexes_where, skip_of, causes}
-use Rattle.report.specs.Laws.{TellsCause, IsToldOnce, TellsEachOnce}
+use Rattle.report.specs.Samples.{IsKeptSample, is_side, is_why, is_same, indexes_from, skip_of, causes}
+use Rattle.report.specs.Laws.{TellsCause, TellsEachOnce}
 
 -- ---- the test of samples
 

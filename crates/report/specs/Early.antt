@@ -1,6 +1,7 @@
 -- The texts of what samples and linear forms tell of two functions.
-use Rattle.std.specs.Prelude.{ℕ, List, ℤ, ◌∷◌, ◌++◌, All, codes, decimal, flat_map}
+use Rattle.std.specs.Prelude.{ℕ, List, ℤ, ◌++◌, All, codes, decimal, flat_map, Option}
 use Rattle.std.specs.Fmt.{signed_decimal}
+use Rattle.trace_pair.specs.declared.skipped.Skipped.{Skipped}
 use Rattle.report.specs.declared.early.Early.{Early}
 use Rattle.report.specs.declared.early.Early.TheVariants.{Equivalent, Different, Unknown}
 use Rattle.report.specs.Samples.{IsKeptSample, sample_lines}
@@ -21,7 +22,10 @@ different_text index input first second =
     ++ codes "\nA returns " ++ signed_decimal first
     ++ codes "\nB returns " ++ signed_decimal second ++ codes "\n"
 
+abbrev pub unknown_text : List (Option Skipped) → List ℕ
+unknown_text samples = codes "unknown\n" ++ sample_lines samples
+
 abbrev pub early_text : Early → List ℕ
 early_text Equivalent = codes "equivalent\n"
 early_text (Different index input first second) = different_text index input first second
-early_text (Unknown samples) = codes "unknown\n" ++ sample_lines samples
+early_text (Unknown samples) = unknown_text samples

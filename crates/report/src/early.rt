@@ -1,7 +1,6 @@
 //! What samples and linear forms tell of two functions, and the lines that tell it.
-ghost use Rattle.std.specs.Prelude.{◌≡◌, ◌++◌, IfOk, codes, string_bytes};
-ghost use Rattle.report.specs.Samples.{sample_lines};
-ghost use Rattle.report.specs.Early.{IsKeptEarly, values_text, different_text, early_text};
+ghost use Rattle.std.specs.Prelude.{◌≡◌, IfOk, string_bytes};
+ghost use Rattle.report.specs.Early.{IsKeptEarly, values_text, different_text, unknown_text, early_text};
 
 use crate::samples::push_sample_lines;
 use sqlite_items::Items;
@@ -44,7 +43,8 @@ fn different_text(
     first: &i128,
     second: &i128,
 ) -> Result<String, AllocError>
-    ensures { IfOk result (λ text. string_bytes text ≡ different_text index input.now first.now second.now) }
+    ensures { IfOk result
+        (λ text. string_bytes text ≡ different_text index input.now first.now second.now) }
 {
     let values = values_text(alloc, input)?;
     format!(in alloc;
@@ -53,7 +53,7 @@ fn different_text(
 }
 
 fn unknown_text(alloc: Global, samples: &[Option<Skipped>]) -> Result<String, AllocError>
-    ensures { IfOk result (λ text. string_bytes text ≡ codes "unknown\n" ++ sample_lines samples.now) }
+    ensures { IfOk result (λ text. string_bytes text ≡ unknown_text samples.now) }
 {
     let mut text = String::from_str(alloc, "unknown\n")?;
     push_sample_lines(alloc, &mut text, samples)?;

@@ -1,5 +1,5 @@
 //! The exact bytes.
-ghost use Rattle.std.specs.Prelude.{IfOk, All};
+ghost use Rattle.std.specs.Prelude.{◌≢◌, IfOk, All};
 ghost use Rattle.report.specs.Faults.{IsKept};
 ghost use Rattle.report.specs.Samples.{IsKeptSample};
 ghost use Rattle.report.specs.Early.{IsKeptEarly};
@@ -7,12 +7,12 @@ ghost use Rattle.report.specs.Early.{IsKeptEarly};
 use crate::early::{Early, early_text};
 use crate::fault::{Fault, fault_text};
 use crate::indexes::indexes_text;
-use c_ast::Side::{self, A, B};
+use c_ast::Side::{A, B};
 use c_ast::{Arity, Name};
 use c_check::CheckFault;
 use c_reader::ReadFault;
 use c_tokens::TokenFault;
-use graph_run::Skip::{self, NotEnded, Wide};
+use graph_run::Skip::{NotEnded, Wide};
 use sqlite_items::Items;
 use std::alloc::{AllocError, Global};
 use std::test::Fail;
@@ -64,8 +64,216 @@ fn faults_of_words_and_texts(rt: HostRuntime) -> Result<(), Fail> {
     Ok(())
 }
 
-fn token_line(alloc: Global, fault: TokenFault) -> Result<String, AllocError>
-    requires { IsKept (Fault.Token [] fault) }
+#[test]
+fn faults_of_tokens(rt: HostRuntime) -> Result<(), Fail> {
+    let alloc = rt.alloc();
+    let none = TokenFault::NoToken {
+        line: 3,
+        column: 14,
+    };
+    let none = line(alloc, Fault::Token(file(alloc)?, none))?;
+    assert_eq!(rt; none.as_str(), "llreve: a/b.c:3:14: no token\n");
+    let word = name(alloc, "goto")?;
+    let kept = TokenFault::Unsupported {
+        word,
+        line: 2,
+        column: 1,
+    };
+    let kept = line(alloc, Fault::Token(file(alloc)?, kept))?;
+    assert_eq!(rt; kept.as_str(), "llreve: a/b.c:2:1: unsupported goto\n");
+    let range = TokenFault::LiteralRange {
+        line: 1,
+        column: 4294967295,
+    };
+    let range = line(alloc, Fault::Token(file(alloc)?, range))?;
+    assert_eq!(rt;
+        range.as_str(),
+        "llreve: a/b.c:1:4294967295: literal out of range\n"
+    );
+    Ok(())
+}
+
+fn rule(alloc: Global, fault: CheckFault) -> Result<String, AllocError>
+    requires { fault ≢ CheckFault.Memory }
 {
-    line(alloc, Fault::Token(file(alloc)?, fault))
+    line(alloc, Fault::Check(file(alloc)?, fault))
+}
+
+#[test]
+fn faults_of_functions(rt: HostRuntime) -> Result<(), Fail> {
+    let alloc = rt.alloc();
+    let none = rule(alloc, CheckFault::NoFunction)?;
+    assert_eq!(rt; none.as_str(), "llreve: a/b.c: no function\n");
+    let many = rule(alloc, CheckFault::ManyFunctions(2))?;
+    assert_eq!(rt; many.as_str(), "llreve: a/b.c: 2 functions\n");
+    let outside = rule(alloc, CheckFault::Outside { line: 7 })?;
+    assert_eq!(rt; outside.as_str(), "llreve: a/b.c:7: outside a loop\n");
+    let range = rule(alloc, CheckFault::MarkRange(1000000))?;
+    assert_eq!(rt;
+        range.as_str(),
+        "llreve: a/b.c: mark 1000000 out of range\n"
+    );
+    let twice = rule(alloc, CheckFault::MarkTwice(42))?;
+    assert_eq!(rt; twice.as_str(), "llreve: a/b.c: mark 42 twice\n");
+    let variables = rule(alloc, CheckFault::ManyVariables(65))?;
+    assert_eq!(rt; variables.as_str(), "llreve: a/b.c: 65 variables\n");
+    Ok(())
+}
+
+#[test]
+fn faults_of_names(rt: HostRuntime) -> Result<(), Fail> {
+    let alloc = rt.alloc();
+    let undeclared = CheckFault::Undeclared {
+        name: name(alloc, "x")?,
+        line: 5,
+    };
+    let undeclared = rule(alloc, undeclared)?;
+    assert_eq!(rt; undeclared.as_str(), "llreve: a/b.c:5: undeclared x\n");
+    let twice = CheckFault::Twice {
+        name: name(alloc, "y")?,
+        line: 6,
+    };
+    let twice = rule(alloc, twice)?;
+    assert_eq!(rt; twice.as_str(), "llreve: a/b.c:6: declared twice y\n");
+    Ok(())
+}
+
+fn lines(alloc: Global, early: &Early) -> Result<String, AllocError>
+    requires { IsKeptEarly early.now }
+{
+    let bytes = early_text(alloc, early)?;
+    told(alloc, &bytes)
+}
+
+#[test]
+fn equivalent_functions(rt: HostRuntime) -> Result<(), Fail> {
+    assert_eq!(rt;
+        lines(rt.alloc(), &Early::Equivalent)?.as_str(),
+        "equivalent\n"
+    );
+    Ok(())
+}
+
+fn different(
+    alloc: Global,
+    index: u32,
+    input: &[i128],
+    first: i128,
+    second: i128,
+) -> Result<String, AllocError> {
+    let input = Items::from_slice(alloc, input)?;
+    lines(
+        alloc,
+        &Early::Different {
+            index,
+            input,
+            first,
+            second,
+        },
+    )
+}
+
+#[test]
+fn different_functions(rt: HostRuntime) -> Result<(), Fail> {
+    let rows: [(u32, &[i128], i128, i128, &str); 3] = [
+        (
+            0,
+            &[],
+            7,
+            8,
+            "different\nsample 0\ninput\nA returns 7\nB returns 8\n",
+        ),
+        (
+            12,
+            &[-1],
+            -20,
+            0,
+            "different\nsample 12\ninput -1\nA returns -20\nB returns 0\n",
+        ),
+        (
+            999,
+            &[0, -7, 20],
+            1,
+            -1267650600228229401496703205376,
+            "different\nsample 999\ninput 0 -7 20\nA returns 1\nB returns -1267650600228229401496703205376\n",
+        ),
+    ];
+    for (index, input, first, second, text) in rows {
+        assert_eq!(rt;
+            different(rt.alloc(), index, input, first, second)?.as_str(),
+            text
+        );
+    }
+    Ok(())
+}
+
+/// A sample as a letter: `A` and `B` have not ended on that side, `a` and `b` are wide there, others are equal.
+fn sample(letter: char) -> Option<Skipped>
+    ensures { IsKeptSample result }
+{
+    match letter {
+        'A' => Some(Skipped {
+            side: A,
+            why: NotEnded,
+        }),
+        'a' => Some(Skipped { side: A, why: Wide }),
+        'B' => Some(Skipped {
+            side: B,
+            why: NotEnded,
+        }),
+        'b' => Some(Skipped { side: B, why: Wide }),
+        _ => None,
+    }
+}
+
+fn samples(alloc: Global, letters: &[char]) -> Result<Items<Option<Skipped>>, AllocError>
+    ensures { IfOk result (λ samples. All IsKeptSample samples) }
+{
+    let mut samples = Items::new(alloc);
+    for letter in letters {
+        samples.push(sample(*letter))?;
+    }
+    Ok(samples)
+}
+
+fn unknown(alloc: Global, letters: &[char]) -> Result<String, AllocError> {
+    let samples = samples(alloc, letters)?;
+    lines(alloc, &Early::Unknown { samples })
+}
+
+#[test]
+fn unknown_functions(rt: HostRuntime) -> Result<(), Fail> {
+    let rows: [(&[char], &str); 3] = [
+        (&[], "unknown\n"),
+        (
+            &['=', '=', 'a', '=', 'a'],
+            "unknown\nequal 0-1 3\nwide A 2 4\n",
+        ),
+        (
+            &['b', 'B', 'a', 'A', '=', 'b', 'B', 'a', 'a', '='],
+            "unknown\nequal 4 9\nnot-ended A 3\nwide A 2 7-8\nnot-ended B 1 6\nwide B 0 5\n",
+        ),
+    ];
+    for (letters, text) in rows {
+        assert_eq!(rt; unknown(rt.alloc(), letters)?.as_str(), text);
+    }
+    Ok(())
+}
+
+#[test]
+fn lists_of_indexes(rt: HostRuntime) -> Result<(), Fail> {
+    let rows: [(&[u32], &str); 8] = [
+        (&[], "none"),
+        (&[7], "7"),
+        (&[0, 1], "0-1"),
+        (&[0, 1, 3], "0-1 3"),
+        (&[1, 0], "1 0"),
+        (&[4, 4], "4 4"),
+        (&[0, 1, 2, 3, 4, 5], "0-5"),
+        (&[5, 6, 8, 9, 10], "5-6 8-10"),
+    ];
+    for (indexes, text) in rows {
+        assert_eq!(rt; indexes_text(rt.alloc(), indexes)?.as_str(), text);
+    }
+    Ok(())
 }

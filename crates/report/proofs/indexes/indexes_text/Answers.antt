@@ -1,4 +1,4 @@
-use Rattle.std.proofs.Common.{◌≡◌, ◌++◌, List, ℕ, suc, ◌+◌, drop, get_or, string_bytes, arith, refl, sym}
+use Rattle.std.proofs.Common.{◌≡◌, ◌++◌, List, ℕ, ◌+◌, drop, get_or, string_bytes, arith, refl, sym}
 use Rattle.std.specs.Prelude.{codes}
 use Rattle.std.proofs.lemmas.List.{at_drop_more}
 use Rattle.report.specs.Indexes.{with_run, runs, run_text, runs_text}

@@ -1,4 +1,4 @@
-use Rattle.std.proofs.Common.{string_bytes, Some, None}
+use Rattle.std.proofs.Common.{string_bytes, None}
 use Rattle.std.specs.Prelude.{codes}
 use Rattle.std.proofs.lemmas.Result.{IfOk-equal}
 use Rattle.c_ast.specs.declared.place.Side.TheVariants.{A, B}
