@@ -1,0 +1,44 @@
+-- Laws of runs and of samples.
+use Rattle.std.specs.Prelude.{◌≡◌, ◌≢◌, ◌↔◌, ℕ, zero, suc, ◌-◌, ◌<◌, ◌≤◌, List, [], ◌∷◌, length, All, Contains, flat_map, slice_get, Option, Some}
+use Rattle.trace_pair.specs.declared.skipped.Skipped.{Skipped}
+use Rattle.report.specs.Indexes.{runs}
+use Rattle.report.specs.Samples.{IsKeptSample, indexes_where, causes}
+
+-- as many successive rising numbers, from the first one on
+abbrev pub rising : ℕ → ℕ → List ℕ
+rising first zero = []
+rising first (suc count) = first ∷ rising (suc first) count
+
+-- the numbers of a run: first, first + 1, .., last
+abbrev pub numbers_of : ℕ × ℕ → List ℕ
+numbers_of run = rising run.0 (suc run.1 - run.0)
+
+-- No run goes on from the one before it.
+abbrev pub AreApart : List (ℕ × ℕ) → Type 0
+AreApart [] = Unit {0}
+AreApart (run ∷ []) = Unit {0}
+AreApart (run ∷ next ∷ more) = (next.0 ≢ suc run.1) × AreApart (next ∷ more)
+
+-- The runs, written out one after the other, are the list, and none can be longer.
+pub record AreRunsOf (indexes : List ℕ) (all : List (ℕ × ℕ)) : Type 0 where
+  pub written : flat_map numbers_of all ≡ indexes
+  pub apart : AreApart all
+  pub rising : All (λ run. run.0 ≤ run.1) all
+
+abbrev pub HasRuns : Type 0
+HasRuns = (indexes : List ℕ) → AreRunsOf indexes (runs indexes)
+
+-- An index is told for a cause exactly if the sample there has it.
+abbrev pub TellsCause : Type 0
+TellsCause = (samples : List (Option Skipped)) (cause : Option Skipped) (index : ℕ)
+    → Contains (indexes_where cause samples) index ↔ (slice_get samples index ≡ Some cause)
+
+-- The index is told for exactly one of the causes.
+pub record IsToldOnce (samples : List (Option Skipped)) (index : ℕ) : Type 0 where
+  pub row : Option Skipped × List ℕ
+  pub among : Contains causes row
+  pub told : Contains (indexes_where row.0 samples) index
+  pub once : (other : Option Skipped × List ℕ) → Contains causes other → Contains (indexes_where other.0 samples) index → other ≡ row
+
+abbrev pub TellsEachOnce : Type 0
+TellsEachOnce = (samples : List (Option Skipped)) (index : ℕ) → All IsKeptSample samples → index < length samples → IsToldOnce samples index

@@ -1,0 +1,83 @@
+//! What samples and linear forms tell of two functions, and the lines that tell it.
+ghost use Rattle.std.specs.Prelude.{◌≡◌, ◌++◌, IfOk, OnOk, codes, string_bytes};
+ghost use Rattle.report.specs.Samples.{sample_lines};
+ghost use Rattle.report.specs.Early.{IsKeptEarly, values_text, different_text, early_text};
+
+use crate::samples::push_sample_lines;
+use sqlite_items::Items;
+use std::alloc::{AllocError, Global};
+use trace_pair::Skipped;
+
+/// What runs on samples, and linear forms, tell of two functions.
+#[derive(Debug, Drop)]
+pub enum Early {
+    /// No input makes the two functions return differently.
+    Equivalent,
+    /// They return differently on the input of the sample with this index.
+    Different {
+        index: u32,
+        input: Items<i128>,
+        first: i128,
+        second: i128,
+    },
+    /// Nothing is known of the two functions. Each sample, by its index, is a pair with equal results (`None`) or was
+    /// skipped.
+    Unknown {
+        samples: Items<Option<Skipped>>,
+    },
+}
+
+fn push_values(text: &mut String, values: &[i128]) -> Result<(), AllocError>
+    ensures { OnOk result (string_bytes text.new ≡ string_bytes text.old ++ values_text values.now) }
+{
+    for value in values {
+        write!(text, " {value}")?;
+    }
+    Ok(())
+}
+
+fn different_text(
+    alloc: Global,
+    index: u32,
+    input: &[i128],
+    first: i128,
+    second: i128,
+) -> Result<String, AllocError>
+    ensures { IfOk result (λ text. string_bytes text ≡ different_text index input.now first second) }
+{
+    let mut text = format!(in alloc; "different\nsample {index}\ninput")?;
+    push_values(&mut text, input)?;
+    write!(text, "\nA returns {first}\nB returns {second}\n")?;
+    Ok(text)
+}
+
+fn unknown_text(alloc: Global, samples: &[Option<Skipped>]) -> Result<String, AllocError>
+    ensures { IfOk result (λ text. string_bytes text ≡ codes "unknown\n" ++ sample_lines samples.now) }
+{
+    let mut text = String::from_str(alloc, "unknown\n")?;
+    push_sample_lines(alloc, &mut text, samples)?;
+    Ok(text)
+}
+
+fn lines_of(alloc: Global, early: &Early) -> Result<String, AllocError>
+    ensures { IfOk result (λ text. string_bytes text ≡ early_text early.now) }
+{
+    match early {
+        Early::Equivalent => String::from_str(alloc, "equivalent\n"),
+        Early::Different {
+            index,
+            input,
+            first,
+            second,
+        } => different_text(alloc, *index, input.as_slice(), *first, *second),
+        Early::Unknown { samples } => unknown_text(alloc, samples.as_slice()),
+    }
+}
+
+/// The lines that tell it.
+pub fn early_text(alloc: Global, early: &Early) -> Result<Vec<u8>, AllocError>
+    requires { IsKeptEarly early.now }
+    ensures { IfOk result (λ text. text.items ≡ early_text early.now) }
+{
+    Ok(lines_of(alloc, early)?.into_bytes())
+}
