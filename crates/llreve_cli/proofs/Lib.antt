@@ -3,3 +3,5 @@ pub mod OneReading
 pub mod Marks
 pub mod Judging
 pub mod Telling
+pub mod OneVerdict
+pub mod OneOutcome

@@ -1,14 +1,15 @@
 -- What the statuses say of the two files, and what is exact.
-use Rattle.std.specs.Prelude.{◌≡◌, ℕ, List, Option, Some, ℤ}
+use Rattle.std.specs.Prelude.{◌≡◌, ℕ, ◌<◌, List, Option, Some, ℤ}
 use Rattle.re_base.specs.Causes.{Rose}
 use Rattle.c_ast.specs.Function.{program_of}
 use Rattle.c_ast.specs.Returns.{Returns}
+use Rattle.c_ast.specs.declared.trace.Pair.{Pair}
 use Rattle.command_line.specs.declared.words.Command.{Command}
 use Rattle.command_line.specs.CommandLine.{IsCommand}
 use Rattle.trace_pair.specs.declared.skipped.Skipped.{Skipped}
 use Rattle.llreve_cli.specs.declared.outcome.Outcome.{Outcome}
 use Rattle.llreve_cli.specs.Compare.{HaveOneValue, IsUnknown}
-use Rattle.llreve_cli.specs.Samples.{IsDifference}
+use Rattle.llreve_cli.specs.Samples.{TellsApart, IsDifference}
 use Rattle.llreve_cli.specs.Leads.{AreComparable, subject_of, Leads}
 
 -- No input makes the two functions return differently.
@@ -32,6 +33,14 @@ pub record AreUnknown (words : List (List ℕ)) (text : List ℕ → Option (Lis
   pub comparable : AreComparable words text
   pub samples : List (Option Skipped)
   pub unknown : IsUnknown (subject_of comparable) samples
+
+-- Some sample tells the two functions apart.
+pub record SampleDiffers (words : List (List ℕ)) (text : List ℕ → Option (List ℕ)) : Type 0 where
+  pub comparable : AreComparable words text
+  pub index : ℕ
+  pub pair : Pair
+  pub below : index < comparable.functions.files.command.settings.samples
+  pub apart : TellsApart (subject_of comparable) index pair
 
 -- The files tell the texts of both names, and no read failed.
 pub record AreTold (words : List (List ℕ)) (text : List ℕ → Option (List ℕ)) (before after : List ℕ → ℕ) : Type 0 where

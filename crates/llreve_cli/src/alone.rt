@@ -7,12 +7,13 @@ ghost use Rattle.llreve_cli.specs.declared.outcome.Outcome.{Outcome};
 ghost use Rattle.llreve_cli.specs.Leads.{Leads};
 ghost use Rattle.llreve_cli.specs.Told.{status_of, out_text, err_text};
 ghost use Rattle.llreve_cli.specs.Tells.{Tells};
-ghost use Rattle.llreve_cli.specs.Answers.{AreEquivalent, AreDifferent, AreUnknown, AreTold, HasOneOutcome};
+ghost use Rattle.llreve_cli.specs.Answers.{AreEquivalent, AreDifferent, AreUnknown, AreTold, SampleDiffers, HasOneOutcome};
 
 use crate::judge::judge;
 use crate::outcome::{NO_MEMORY, Outcome};
 use crate::stop::Stop;
 use crate::tell::tell;
+use command_line::one_command;
 use re_base::{Files, Sink};
 use std::alloc::{AllocError, Global};
 
@@ -62,6 +63,10 @@ pub fn llreve_alone<F: Files, O: Sink, E: Sink>(
     ensures different { result ≡ 1 → (d : AreDifferent (map string_bytes words.now) (F.text files.old))
         × Appends (O.written out.old) (O.written out.new) (early_text (early.Different d.index d.input d.first d.second)) }
 
+    // It comes wherever some sample tells them apart, unless a write failed or memory ran out.
+    ensures apart { AreTold (map string_bytes words.now) (F.text files.old) (F.faults files.old) (F.faults files.new)
+        → SampleDiffers (map string_bytes words.now) (F.text files.old) → result ≢ 5 → result ≢ 6 → result ≡ 1 }
+
     // Status 2 tells why each sample decides nothing.
     ensures unknown { result ≡ 2 → (u : AreUnknown (map string_bytes words.now) (F.text files.old))
         × Appends (O.written out.old) (O.written out.new) (early_text (early.Unknown u.samples)) }
@@ -75,4 +80,6 @@ pub fn llreve_alone<F: Files, O: Sink, E: Sink>(
 /// A law: words and told texts lead to one outcome at most, where no read fails.
 pub fn one_outcome()
     ensures { HasOneOutcome }
-{}
+{
+    one_command();
+}
