@@ -1,0 +1,5 @@
+pub mod Values
+pub mod WordKinds
+pub mod Left
+pub mod Steps
+pub mod Whole

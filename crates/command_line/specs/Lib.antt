@@ -1,2 +1,4 @@
 pub mod CommandLine
 pub mod Refused
+pub mod Read
+pub mod Says

@@ -3,7 +3,12 @@
 //! `specs/CommandLine.antt` says which words are a command line, and what they say.
 #![tactic(auto)]
 
+mod given;
+mod kind;
+mod reading;
 mod setting;
+
+
 mod words;
 
 pub use words::{Command, NoCommand, one_command, read_command};

@@ -1,6 +1,8 @@
 //! The options that take a number.
-ghost use Rattle.std.specs.Prelude.{◌≡◌, ◌↔◌, IsTrue};
-ghost use Rattle.command_line.specs.CommandLine.{IsWithin, default_of};
+ghost use Rattle.std.specs.Prelude.{◌≡◌};
+ghost use Rattle.command_line.specs.CommandLine.{default_of};
+ghost use Rattle.command_line.specs.Read.{setting_named};
+ghost use Rattle.command_line.specs.Says.{is_within};
 
 /// An option that takes a number.
 #[derive(Clone, Copy, Debug, PartialEq, Eq)]
@@ -18,8 +20,27 @@ pub enum Setting {
 }
 
 impl Setting {
+    /// The option of this name.
+    pub(crate) fn named(name: &str) -> Option<Setting>
+        ensures { result ≡ setting_named name.now }
+    {
+        if name == "--workers" {
+            Some(Setting::Workers)
+        } else if name == "--samples" {
+            Some(Setting::Samples)
+        } else if name == "--marks" {
+            Some(Setting::Marks)
+        } else if name == "--rows" {
+            Some(Setting::Rows)
+        } else if name == "--seed" {
+            Some(Setting::Seed)
+        } else {
+            None
+        }
+    }
+
     /// The number that stands where the option is not given.
-    fn default_number(self) -> u64
+    pub(crate) fn default_number(self) -> u64
         ensures { result ≡ default_of self }
     {
         match self {
@@ -32,8 +53,8 @@ impl Setting {
     }
 
     /// Whether the option takes the number.
-    fn takes(self, number: u64) -> bool
-        ensures { IsTrue result ↔ IsWithin self number }
+    pub(crate) fn takes(self, number: u64) -> bool
+        ensures { result ≡ is_within self number }
     {
         match self {
             Setting::Workers => (1..=64).contains(&number),

@@ -3,6 +3,7 @@ ghost use Rattle.std.specs.Prelude.{◌≡◌, map, string_bytes, IfOk, IfErr};
 ghost use Rattle.command_line.specs.CommandLine.{IsCommand, IsOneCommand};
 ghost use Rattle.command_line.specs.Refused.{IsNoCommand};
 
+use crate::reading::Reading;
 use c_ast::{Name, Settings};
 use std::alloc::{AllocError, Global};
 
@@ -28,7 +29,14 @@ pub fn read_command(alloc: Global, words: &[String]) -> Result<Command, NoComman
     ensures command { IfOk result (IsCommand (map string_bytes words.now)) }
     ensures refused { IfErr result (IsNoCommand (map string_bytes words.now)) }
 {
-    Err(NoCommand::Memory)
+    let mut reading = Reading::start();
+    for word in words {
+        reading = reading.step(alloc, word.as_str())?;
+    }
+    match reading.command() {
+        Some(command) => Ok(command),
+        None => Err(NoCommand::Usage),
+    }
 }
 
 /// A law: words are one command line at most.

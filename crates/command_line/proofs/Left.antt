@@ -1,0 +1,221 @@
+-- The items that are left when some words were read.
+use Rattle.std.proofs.Common.{◌≡◌, ◌≢◌, ◌<◌, ◌≤◌, ◌+◌, ◌==◌, ◌++◌, ◌&&◌, ℕ, zero, suc, Bool, true, false, List, [], ◌∷◌, map, Option, Some, None, refl, sym, ap, ◌∙◌, true≢false, subst, arith}
+use Rattle.std.specs.Prelude.{codes, bytes_eq, if◌then◌else◌, option_to_list, option_map, option_and_then, is_some}
+use Rattle.std.proofs.lemmas.Bool.Decides.{nat_tests}
+use Rattle.command_line.specs.declared.setting.Setting.{Setting}
+use Rattle.command_line.specs.declared.setting.Setting.TheVariants.{Workers, Samples, Marks, Rows, Seed}
+use Rattle.command_line.specs.declared.given.Given.{Given}
+use Rattle.command_line.specs.declared.given.Files.{Files}
+use Rattle.command_line.specs.declared.given.Files.TheVariants as files
+use Rattle.command_line.specs.declared.words.Command.{Command}
+use Rattle.command_line.specs.CommandLine.{Item, alone, given, operand, operands, switches, numbers, place_of, Sets, IsWithin, greatest_of}
+use Rattle.command_line.specs.Read.{number_of, put, with_alone, with_number, with_operand, one_more}
+
+-- the names so far
+abbrev pub file_list : Files → List (List ℕ)
+file_list files.None = []
+file_list (files.First first) = first ∷ []
+file_list (files.Both first second) = first ∷ second ∷ []
+
+-- how often `--alone` stood
+abbrev pub count : Bool → ℕ
+count true = 1
+count false = 0
+
+-- the option's numbers, those so far and those of the items
+abbrev pub all_numbers : Setting → Given → List Item → List ℕ
+all_numbers setting now items = option_to_list (number_of setting now) ++ numbers setting items
+
+-- the options' numbers of a command
+abbrev pub number_in : ℕ → Command → Setting → ℕ
+number_in workers command Workers = workers
+number_in workers command Samples = command.settings.samples
+number_in workers command Marks = command.settings.marks
+number_in workers command Rows = command.settings.rows
+number_in workers command Seed = command.settings.seed
+
+-- What was given and the items that are left make the command.
+pub record Makes (now : Given) (items : List Item) (command : Command) (workers : ℕ) : Type 0 where
+  pub alone_once : count now.alone + switches items ≡ 1
+  pub sets : (setting : Setting) → Sets setting (all_numbers setting now items) (number_in workers command setting)
+  pub names : file_list now.files ++ operands items ≡ command.first ∷ command.second ∷ []
+
+-- what was given with one item more
+abbrev pub with_item : Item → Given → Option Given
+with_item alone now = with_alone now
+with_item (given setting number) now = with_number setting number now
+with_item (operand word) now = with_operand word now
+
+-- ---- numbers
+
+-- where the option has no number, the next one is put
+moved_numbers : (setting other : Setting) (number : ℕ) (now : Given) (items : List Item) → number_of setting now ≡ None
+    → all_numbers other now (given setting number ∷ items) ≡ all_numbers other (put setting number now) items
+moved_numbers Workers Workers number now items is = rw is refl
+moved_numbers Workers Samples number now items is = refl
+moved_numbers Workers Marks number now items is = refl
+moved_numbers Workers Rows number now items is = refl
+moved_numbers Workers Seed number now items is = refl
+moved_numbers Samples Workers number now items is = refl
+moved_numbers Samples Samples number now items is = rw is refl
+moved_numbers Samples Marks number now items is = refl
+moved_numbers Samples Rows number now items is = refl
+moved_numbers Samples Seed number now items is = refl
+moved_numbers Marks Workers number now items is = refl
+moved_numbers Marks Samples number now items is = refl
+moved_numbers Marks Marks number now items is = rw is refl
+moved_numbers Marks Rows number now items is = refl
+moved_numbers Marks Seed number now items is = refl
+moved_numbers Rows Workers number now items is = refl
+moved_numbers Rows Samples number now items is = refl
+moved_numbers Rows Marks number now items is = refl
+moved_numbers Rows Rows number now items is = rw is refl
+moved_numbers Rows Seed number now items is = refl
+moved_numbers Seed Workers number now items is = refl
+moved_numbers Seed Samples number now items is = refl
+moved_numbers Seed Marks number now items is = refl
+moved_numbers Seed Rows number now items is = refl
+moved_numbers Seed Seed number now items is = rw is refl
+
+-- a number among those that set an option is the only one, and in its range
+sole : (setting : Setting) (so_far : Option ℕ) (number set : ℕ) (others : List ℕ) → Sets setting (option_to_list so_far ++ number ∷ others) set
+    → (so_far ≡ None) × IsWithin setting number
+sole setting None number set [] sets = (refl, subst (IsWithin setting) sets.0 sets.1)
+sole setting None number set (other ∷ others) sets = absurd sets
+sole setting (Some first) number set others sets = absurd sets
+
+own_numbers : (setting : Setting) (number : ℕ) (items : List Item) → numbers setting (given setting number ∷ items) ≡ number ∷ numbers setting items
+own_numbers Workers number items = refl
+own_numbers Samples number items = refl
+own_numbers Marks number items = refl
+own_numbers Rows number items = refl
+own_numbers Seed number items = refl
+
+-- ---- operands
+
+no_third : (first second third : List ℕ) (one other : List ℕ) (others : List (List ℕ)) → first ∷ second ∷ third ∷ others ≢ one ∷ other ∷ []
+no_third first second third one other others is = absurd cc
+
+moved_names : (word : List ℕ) (now : Files) (others : List (List ℕ)) (one other : List ℕ) → file_list now ++ word ∷ others ≡ one ∷ other ∷ []
+    → (next : Files) × (one_more word now ≡ Some next) × (file_list next ++ others ≡ one ∷ other ∷ [])
+moved_names word files.None others one other is = (files.First word, refl, is)
+moved_names word (files.First first) others one other is = (files.Both first word, refl, is)
+moved_names word (files.Both first second) others one other is = absurd (no_third first second word one other others is)
+
+joined_names : (word : List ℕ) (now next : Files) (others : List (List ℕ)) → one_more word now ≡ Some next
+    → file_list now ++ word ∷ others ≡ file_list next ++ others
+joined_names word files.None next others is = let same : files.First word ≡ next = cc in ap (λ l. file_list l ++ others) same
+joined_names word (files.First first) next others is = let same : files.Both first word ≡ next = cc in ap (λ l. file_list l ++ others) same
+joined_names word (files.Both first second) next others is = absurd cc
+
+-- ---- what a step leaves
+
+-- numbers stay where `--alone` or an operand is given
+other_numbers : (setting : Setting) (now : Given) (switch : Bool) (names : Files) → number_of setting (record now { alone = switch; files = names }) ≡ number_of setting now
+other_numbers Workers now switch names = refl
+other_numbers Samples now switch names = refl
+other_numbers Marks now switch names = refl
+other_numbers Rows now switch names = refl
+other_numbers Seed now switch names = refl
+
+-- `--alone` and the operands stay where a number is given
+others_stay : (setting : Setting) (number : ℕ) (now : Given) → ((put setting number now).alone ≡ now.alone) × ((put setting number now).files ≡ now.files)
+others_stay Workers number now = (refl, refl)
+others_stay Samples number now = (refl, refl)
+others_stay Marks number now = (refl, refl)
+others_stay Rows number now = (refl, refl)
+others_stay Seed number now = (refl, refl)
+
+not_before : (before : Bool) (others : ℕ) → count before + suc others ≡ 1 → (before ≡ false) × (others ≡ 0)
+not_before true others once = absurd (omega arith)
+not_before false others once = (refl, omega arith)
+
+-- ---- one item
+
+-- the first item left is given next
+pub moved : (item : Item) (now : Given) (items : List Item) (command : Command) (workers : ℕ) → Makes now (item ∷ items) command workers
+    → (next : Given) × (with_item item now ≡ Some next) × Makes next items command workers
+moved alone now items command workers makes =
+    let before = not_before now.alone (switches items) makes.alone_once in
+    let none : now.alone ≡ false = before.0 in
+    let no_more : switches items ≡ 0 = before.1 in
+    let next : Given = record now { alone = true } in
+    (next, rw none refl, record {
+      alone_once = omega (arith, no_more);
+      sets = λ setting. subst (λ n. Sets setting (option_to_list n ++ numbers setting items) (number_in workers command setting)) (sym (other_numbers setting now true now.files)) (makes.sets setting);
+      names = makes.names;
+    })
+moved (given setting number) now items command workers makes =
+    let own : Sets setting (option_to_list (number_of setting now) ++ number ∷ numbers setting items) (number_in workers command setting) =
+      subst (λ l. Sets setting (option_to_list (number_of setting now) ++ l) (number_in workers command setting)) (own_numbers setting number items) (makes.sets setting) in
+    let none : number_of setting now ≡ None =
+      (sole setting (number_of setting now) number (number_in workers command setting) (numbers setting items) own).0 in
+    let stay = others_stay setting number now in
+    let put_alone : (put setting number now).alone ≡ now.alone = stay.0 in
+    let put_files : (put setting number now).files ≡ now.files = stay.1 in
+    (put setting number now, rw none refl, record {
+      alone_once = rw put_alone makes.alone_once;
+      sets = λ other. subst (λ l. Sets other l (number_in workers command other)) (moved_numbers setting other number now items none) (makes.sets other);
+      names = rw put_files makes.names;
+    })
+moved (operand word) now items command workers makes =
+    let next = moved_names word now.files (operands items) command.first command.second makes.names in
+    (record now { files = next.0 }, ap (option_map (λ more. record now { files = more })) next.1, record {
+      alone_once = makes.alone_once;
+      sets = λ setting. subst (λ n. Sets setting (option_to_list n ++ numbers setting items) (number_in workers command setting)) (sym (other_numbers setting now now.alone next.0)) (makes.sets setting);
+      names = next.2;
+    })
+
+-- the number of an item that is left is in its option's range
+pub item_within : (setting : Setting) (number : ℕ) (now : Given) (items : List Item) (command : Command) (workers : ℕ)
+    → Makes now (given setting number ∷ items) command workers → IsWithin setting number
+item_within setting number now items command workers makes =
+    let own : Sets setting (option_to_list (number_of setting now) ++ number ∷ numbers setting items) (number_in workers command setting) =
+      subst (λ l. Sets setting (option_to_list (number_of setting now) ++ l) (number_in workers command setting)) (own_numbers setting number items) (makes.sets setting) in
+    (sole setting (number_of setting now) number (number_in workers command setting) (numbers setting items) own).1
+
+switched : (before : Bool) (now next : Given) → now.alone ≡ before → (if before then None else Some (record now { alone = true })) ≡ Some next
+    → (before ≡ false) × (record now { alone = true } ≡ next)
+switched true now next is gives = absurd cc
+switched false now next is gives = (refl, cc)
+
+numbered : (so_far : Option ℕ) (made next : Given) → (if is_some so_far then None else Some made) ≡ Some next → (so_far ≡ None) × (made ≡ next)
+numbered None made next gives = (refl, cc)
+numbered (Some number) made next gives = absurd cc
+
+named : (now next : Given) (more : Option Files) → option_map (λ names. record now { files = names }) more ≡ Some next
+    → (names : Files) × (more ≡ Some names) × (record now { files = names } ≡ next)
+named now next None gives = absurd cc
+named now next (Some names) gives = (names, refl, cc)
+
+-- the item that was given was the first one left
+pub moved_back : (item : Item) (now next : Given) (items : List Item) (command : Command) (workers : ℕ) → with_item item now ≡ Some next
+    → Makes next items command workers → Makes now (item ∷ items) command workers
+moved_back alone now next items command workers gives makes =
+    let before = switched now.alone now next refl gives in
+    let none : now.alone ≡ false = before.0 in
+    let made : Makes (record now { alone = true }) items command workers = subst (λ g. Makes g items command workers) (sym before.1) makes in
+    record {
+      alone_once = rw none (omega (arith, made.alone_once));
+      sets = λ setting. subst (λ n. Sets setting (option_to_list n ++ numbers setting items) (number_in workers command setting)) (other_numbers setting now true now.files) (made.sets setting);
+      names = made.names;
+    }
+moved_back (given setting number) now next items command workers gives makes =
+    let before = numbered (number_of setting now) (put setting number now) next gives in
+    let made : Makes (put setting number now) items command workers = subst (λ g. Makes g items command workers) (sym before.1) makes in
+    let stay = others_stay setting number now in
+    let put_alone : (put setting number now).alone ≡ now.alone = stay.0 in
+    let put_files : (put setting number now).files ≡ now.files = stay.1 in
+    record {
+      alone_once = rw put_alone at made.alone_once;
+      sets = λ other. subst (λ l. Sets other l (number_in workers command other)) (sym (moved_numbers setting other number now items before.0)) (made.sets other);
+      names = rw put_files at made.names;
+    }
+moved_back (operand word) now next items command workers gives makes =
+    let before = named now next (one_more word now.files) gives in
+    let made : Makes (record now { files = before.0 }) items command workers = subst (λ g. Makes g items command workers) (sym before.2) makes in
+    record {
+      alone_once = made.alone_once;
+      sets = λ setting. subst (λ n. Sets setting (option_to_list n ++ numbers setting items) (number_in workers command setting)) (other_numbers setting now now.alone before.0) (made.sets setting);
+      names = joined_names word now.files before.0 (operands items) before.1 ∙ made.names;
+    }
