@@ -1,6 +1,6 @@
 -- The texts of what samples and linear forms tell of two functions.
 use Rattle.std.specs.Prelude.{ℕ, List, ℤ, ◌∷◌, ◌++◌, All, codes, decimal, flat_map}
-use Rattle.core.specs.Fmt.{signed_decimal}
+use Rattle.std.specs.Fmt.{signed_decimal}
 use Rattle.report.specs.declared.early.Early.{Early}
 use Rattle.report.specs.declared.early.Early.TheVariants.{Equivalent, Different, Unknown}
 use Rattle.report.specs.Samples.{IsKeptSample, sample_lines}

@@ -1,6 +1,6 @@
 -- How a list of indexes is told: by its runs, each a first and a last number.
-use Rattle.std.specs.Prelude.{ℕ, suc, ◌-◌, List, [], ◌∷◌, ◌++◌, map, codes, decimal, ◌==◌, if◌then◌else◌}
-use Rattle.core.specs.List.{join_with_byte}
+use Rattle.std.specs.Prelude.{ℕ, suc, List, [], ◌∷◌, ◌++◌, codes, decimal, ◌==◌, if◌then◌else◌}
+use Rattle.std.specs.List.{join_by}
 
 -- A run before others takes the first of them in where that one starts with the next number.
 abbrev pub with_run : ℕ → ℕ → List (ℕ × ℕ) → List (ℕ × ℕ)
@@ -18,7 +18,7 @@ run_text run = if run.0 == run.1 then decimal run.0 else decimal run.0 ++ codes 
 
 -- the runs with a space between each two
 abbrev pub runs_text : List (ℕ × ℕ) → List ℕ
-runs_text runs = join_with_byte 32 (map run_text runs)
+runs_text all = join_by run_text (codes " ") all
 
 abbrev pub indexes_text : List ℕ → List ℕ
 indexes_text [] = codes "none"

@@ -1,5 +1,5 @@
 -- How it is told what came of the samples: equal results, or a skip.
-use Rattle.std.specs.Prelude.{◌≢◌, ℕ, zero, suc, Bool, true, false, ◌&&◌, List, [], ◌∷◌, ◌++◌, codes, flat_map, if◌then◌else◌, Option, Some, None}
+use Rattle.std.specs.Prelude.{◌≢◌, ℕ, suc, Bool, true, false, ◌&&◌, ◌==◌, List, [], ◌∷◌, ◌++◌, length, codes, flat_map, if◌then◌else◌, Option, Some, None}
 use Rattle.c_ast.specs.declared.place.Side.{Side}
 use Rattle.c_ast.specs.declared.place.Side.TheVariants.{A, B}
 use Rattle.graph_run.specs.declared.skip.Skip.{Skip}
@@ -55,9 +55,12 @@ causes =
 
 -- the words and the indexes, where there are any
 abbrev pub index_line : List ℕ → List ℕ → List ℕ
-index_line words [] = []
-index_line words (index ∷ indexes) = words ++ codes " " ++ indexes_text (index ∷ indexes) ++ codes "\n"
+index_line words indexes = if length indexes == 0 then [] else words ++ codes " " ++ indexes_text indexes ++ codes "\n"
+
+-- the line of the samples that have the cause
+abbrev pub sample_line : List ℕ → Option Skipped → List (Option Skipped) → List ℕ
+sample_line words cause samples = index_line words (indexes_where cause samples)
 
 -- the samples' lines, one for each cause that has an index
 abbrev pub sample_lines : List (Option Skipped) → List ℕ
-sample_lines samples = flat_map (λ row. index_line row.1 (indexes_where row.0 samples)) causes
+sample_lines samples = flat_map (λ row. sample_line row.1 row.0 samples) causes

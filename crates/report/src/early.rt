@@ -1,5 +1,5 @@
 //! What samples and linear forms tell of two functions, and the lines that tell it.
-ghost use Rattle.std.specs.Prelude.{◌≡◌, ◌++◌, IfOk, OnOk, codes, string_bytes};
+ghost use Rattle.std.specs.Prelude.{◌≡◌, ◌++◌, IfOk, codes, string_bytes};
 ghost use Rattle.report.specs.Samples.{sample_lines};
 ghost use Rattle.report.specs.Early.{IsKeptEarly, values_text, different_text, early_text};
 
@@ -27,28 +27,29 @@ pub enum Early {
     },
 }
 
-fn push_values(text: &mut String, values: &[i128]) -> Result<(), AllocError>
-    ensures { OnOk result (string_bytes text.new ≡ string_bytes text.old ++ values_text values.now) }
+fn values_text(alloc: Global, values: &[i128]) -> Result<String, AllocError>
+    ensures { IfOk result (λ text. string_bytes text ≡ values_text values.now) }
 {
+    let mut text = String::new(alloc);
     for value in values {
         write!(text, " {value}")?;
     }
-    Ok(())
+    Ok(text)
 }
 
 fn different_text(
     alloc: Global,
     index: u32,
     input: &[i128],
-    first: i128,
-    second: i128,
+    first: &i128,
+    second: &i128,
 ) -> Result<String, AllocError>
-    ensures { IfOk result (λ text. string_bytes text ≡ different_text index input.now first second) }
+    ensures { IfOk result (λ text. string_bytes text ≡ different_text index input.now first.now second.now) }
 {
-    let mut text = format!(in alloc; "different\nsample {index}\ninput")?;
-    push_values(&mut text, input)?;
-    write!(text, "\nA returns {first}\nB returns {second}\n")?;
-    Ok(text)
+    let values = values_text(alloc, input)?;
+    format!(in alloc;
+        "different\nsample {index}\ninput{values}\nA returns {first}\nB returns {second}\n"
+    )
 }
 
 fn unknown_text(alloc: Global, samples: &[Option<Skipped>]) -> Result<String, AllocError>
@@ -69,7 +70,7 @@ fn lines_of(alloc: Global, early: &Early) -> Result<String, AllocError>
             input,
             first,
             second,
-        } => different_text(alloc, *index, input.as_slice(), *first, *second),
+        } => different_text(alloc, *index, input.as_slice(), first, second),
         Early::Unknown { samples } => unknown_text(alloc, samples.as_slice()),
     }
 }

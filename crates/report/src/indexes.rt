@@ -1,8 +1,15 @@
 //! Lists of indexes, told by their runs.
-ghost use Rattle.std.specs.Prelude.{◌≡◌, ◌++◌, IfOk, OnOk, string_bytes};
+ghost use Rattle.std.specs.Prelude.{◌≡◌, ◌==◌, suc, ◌++◌, IfOk, OnOk, string_bytes};
 ghost use Rattle.report.specs.Indexes.{run_text, indexes_text};
 
 use std::alloc::{AllocError, Global};
+
+/// Whether `index` goes on with a run that ends in `last`.
+fn goes_on(last: u32, index: u32) -> bool
+    ensures { result ≡ (index == suc last) }
+{
+    last.checked_add(1) == Some(index)
+}
 
 fn push_run(text: &mut String, first: u32, last: u32) -> Result<(), AllocError>
     ensures { OnOk result (string_bytes text.new ≡ string_bytes text.old ++ run_text (first, last)) }
@@ -26,7 +33,7 @@ pub fn indexes_text(alloc: Global, indexes: &[u32]) -> Result<String, AllocError
     let mut first = *first;
     let mut last = first;
     for index in others {
-        if last.checked_add(1) != Some(*index) {
+        if !goes_on(last, *index) {
             push_run(&mut text, first, last)?;
             text.push(' ')?;
             first = *index;

@@ -1,10 +1,10 @@
 //! What came of the samples, told by cause.
 ghost use Rattle.std.specs.Prelude.{◌≡◌, ◌++◌, ◌↔◌, IsTrue, IfOk, OnOk, string_bytes};
-ghost use Rattle.report.specs.Samples.{is_same, indexes_where, skip_of, index_line, sample_lines};
+ghost use Rattle.report.specs.Samples.{is_same, indexes_where, skip_of, index_line, sample_line, sample_lines};
 
 use crate::indexes::indexes_text;
-use c_ast::Side;
-use graph_run::Skip;
+use c_ast::Side::{self, A, B};
+use graph_run::Skip::{self, NotEnded, Wide};
 use std::alloc::{AllocError, Global};
 use trace_pair::Skipped;
 
@@ -57,7 +57,8 @@ fn push_line(
     samples: &[Option<Skipped>],
     cause: Option<Skipped>,
 ) -> Result<(), AllocError>
-    ensures { OnOk result (string_bytes text.new ≡ string_bytes text.old ++ index_line words.now (indexes_where cause samples.now)) }
+    ensures { OnOk result
+        (string_bytes text.new ≡ string_bytes text.old ++ sample_line words.now cause samples.now) }
 {
     let indexes = indexes_where(alloc, samples, &cause)?;
     let line = index_line(alloc, words, &indexes)?;
@@ -73,20 +74,8 @@ pub fn push_sample_lines(
     ensures { OnOk result (string_bytes text.new ≡ string_bytes text.old ++ sample_lines samples.now) }
 {
     push_line(alloc, text, "equal", samples, None)?;
-    push_line(
-        alloc,
-        text,
-        "not-ended A",
-        samples,
-        skip_of(Side::A, Skip::NotEnded),
-    )?;
-    push_line(alloc, text, "wide A", samples, skip_of(Side::A, Skip::Wide))?;
-    push_line(
-        alloc,
-        text,
-        "not-ended B",
-        samples,
-        skip_of(Side::B, Skip::NotEnded),
-    )?;
-    push_line(alloc, text, "wide B", samples, skip_of(Side::B, Skip::Wide))
+    push_line(alloc, text, "not-ended A", samples, skip_of(A, NotEnded))?;
+    push_line(alloc, text, "wide A", samples, skip_of(A, Wide))?;
+    push_line(alloc, text, "not-ended B", samples, skip_of(B, NotEnded))?;
+    push_line(alloc, text, "wide B", samples, skip_of(B, Wide))
 }

@@ -20,17 +20,82 @@ fn name(alloc: Global, text: &str) -> Result<Name, AllocError> {
 fn each_fault_has_its_line(rt: HostRuntime) -> Result<(), Fail> {
     let alloc = rt.alloc();
     let file = || name(alloc, "a/b.c");
+    let word = || name(alloc, "goto");
+    let token = |fault: TokenFault| -> Result<Fault, AllocError> {
+        Ok(Fault::Token(file()?, fault))
+    };
+    let reader = |fault: ReadFault| -> Result<Fault, AllocError> {
+        Ok(Fault::Reader(file()?, fault))
+    };
+    let check = |fault: CheckFault| -> Result<Fault, AllocError> {
+        Ok(Fault::Check(file()?, fault))
+    };
     let rows = [
+        (Fault::Usage, "usage: llreve [options] FIRST SECOND"),
+        (Fault::Read(file()?), "a/b.c: cannot be read"),
+        (Fault::TooLong(file()?), "a/b.c: over 65536 bytes"),
         (
-            Fault::Usage,
-            "llreve: usage: llreve [options] FIRST SECOND\n",
+            token(TokenFault::NoToken {
+                line: 3,
+                column: 14,
+            })?,
+            "a/b.c:3:14: no token",
         ),
-        (Fault::Read(file()?), "llreve: a/b.c: cannot be read\n"),
-        (Fault::TooLong(file()?), "llreve: a/b.c: over 65536 bytes\n"),
+        (
+            token(TokenFault::Unsupported {
+                word: word()?,
+                line: 2,
+                column: 1,
+            })?,
+            "a/b.c:2:1: unsupported goto",
+        ),
+        (
+            token(TokenFault::LiteralRange {
+                line: 1,
+                column: 4294967295,
+            })?,
+            "a/b.c:1:4294967295: literal out of range",
+        ),
+        (reader(ReadFault::Deep)?, "a/b.c: nested too deep"),
+        (reader(ReadFault::Grammar)?, "a/b.c: not in the grammar"),
+        (check(CheckFault::NoFunction)?, "a/b.c: no function"),
+        (check(CheckFault::ManyFunctions(2))?, "a/b.c: 2 functions"),
+        (
+            check(CheckFault::Undeclared {
+                name: word()?,
+                line: 5,
+            })?,
+            "a/b.c:5: undeclared goto",
+        ),
+        (
+            check(CheckFault::Twice {
+                name: word()?,
+                line: 6,
+            })?,
+            "a/b.c:6: declared twice goto",
+        ),
+        (
+            check(CheckFault::Outside { line: 7 })?,
+            "a/b.c:7: outside a loop",
+        ),
+        (
+            check(CheckFault::MarkRange(1000000))?,
+            "a/b.c: mark 1000000 out of range",
+        ),
+        (check(CheckFault::MarkTwice(42))?, "a/b.c: mark 42 twice"),
+        (check(CheckFault::ManyVariables(65))?, "a/b.c: 65 variables"),
+        (
+            Fault::Different(Arity {
+                first: 1,
+                second: 2,
+            }),
+            "arity 1 and 2",
+        ),
     ];
     for (fault, line) in &rows {
-        let text = fault_text(alloc, fault)?;
-        assert_eq!(rt; str::from_utf8(&text).unwrap_or("?"), *line);
+        let told = fault_text(alloc, fault)?;
+        let line = format!(in alloc; "llreve: {line}\n")?;
+        assert_eq!(rt; str::from_utf8(&told).unwrap_or("?"), line.as_str());
     }
     Ok(())
 }
