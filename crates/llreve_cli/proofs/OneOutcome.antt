@@ -16,7 +16,8 @@ use Rattle.c_check.specs.declared.fault.CheckFault.{CheckFault}
 use Rattle.c_check.specs.declared.fault.CheckFault.TheVariants as check
 use Rattle.c_check.specs.Checked.{HoldsOne, IsCheckFault, fault_in, variables_of}
 use Rattle.command_line.specs.declared.words.Command.{Command}
-use Rattle.command_line.specs.CommandLine.{IsCommand, IsOneCommand}
+use Rattle.command_line.specs.CommandLine.{IsCommand}
+use Rattle.command_line.proofs.Whole.{one_command_only}
 use Rattle.report.specs.declared.early.Early.{Early}
 use Rattle.report.specs.declared.fault.Fault.{Fault}
 use Rattle.report.specs.declared.fault.Fault.TheVariants as fault
@@ -291,12 +292,12 @@ module _ (words : List (List ℕ)) (text : List ℕ → Option (List ℕ)) (befo
       (subst (λ (list : List ℕ). Reads list functions.first) first.0 functions.first_parsed)
       (subst (λ (list : List ℕ). Reads list functions.second) second.0 functions.second_parsed) comparable.arity compares)
 
-  settled_once : IsOneCommand → (one other : Outcome) → Settled one → Settled other → one ≡ other
-  settled_once law one other (nothing _) (nothing _) = refl
-  settled_once law one other (nothing none) (judged command commands _ _) = absurd (none command commands)
-  settled_once law one other (judged command commands _ _) (nothing none) = absurd (none command commands)
-  settled_once law one other (judged command commands _ is) (judged command' commands' _ also) =
-      let same = law words command command' commands commands' in
+  settled_once : (one other : Outcome) → Settled one → Settled other → one ≡ other
+  settled_once one other (nothing _) (nothing _) = refl
+  settled_once one other (nothing none) (judged command commands _ _) = absurd (none command commands)
+  settled_once one other (judged command commands _ _) (nothing none) = absurd (none command commands)
+  settled_once one other (judged command commands _ is) (judged command' commands' _ also) =
+      let same = one_command_only words command command' commands commands' in
       let firsts : a_of command commands ≡ a_of command' commands' =
       let wrapped : Some (a_of command commands) ≡ Some (a_of command' commands') =
       sym (told.first command commands).1 ∙ ap (λ (c : Command). text c.first) same ∙ (told.first command' commands').1 in cc in
@@ -305,12 +306,12 @@ module _ (words : List (List ℕ)) (text : List ℕ → Option (List ℕ)) (befo
       sym (told.second command commands).1 ∙ ap (λ (c : Command). text c.second) same ∙ (told.second command' commands').1 in cc in
       judged_once command' (a_of command' commands') (b_of command' commands') one other (rw (sym same, sym firsts, sym seconds) is) also
 
-  apart_settled : IsOneCommand → (different : SampleDiffers words text) (o : Outcome) → Settled o → status_of o ≡ 1
-  apart_settled law different o (nothing none) = absurd (none different.comparable.functions.files.command different.comparable.functions.files.commands)
-  apart_settled law different o (judged command commands _ is) =
+  apart_settled : (different : SampleDiffers words text) (o : Outcome) → Settled o → status_of o ≡ 1
+  apart_settled different o (nothing none) = absurd (none different.comparable.functions.files.command different.comparable.functions.files.commands)
+  apart_settled different o (judged command commands _ is) =
       let functions = different.comparable.functions in
       let files = functions.files in
-      let same : files.command ≡ command = law words files.command command files.commands commands in
+      let same : files.command ≡ command = one_command_only words files.command command files.commands commands in
       let first = read_told files.command.first files.first_text (a_of command commands) (ap (λ (c : Command). text c.first) same ∙ (told.first command commands).1) files.first_read in
       let second = read_told files.command.second files.second_text (b_of command commands) (ap (λ (c : Command). text c.second) same ∙ (told.second command commands).1) files.second_read in
       apart_judged command (a_of command commands) (b_of command commands) functions.first functions.second different.index different.pair o first.1 second.1
@@ -320,13 +321,13 @@ module _ (words : List (List ℕ)) (text : List ℕ → Option (List ℕ)) (befo
       (subst (λ (c : Command). TellsApart (comparison functions.first functions.second c.settings) different.index different.pair) same different.apart) is
 
 -- Words and told texts lead to one outcome at most, where no read fails.
-pub outcome_once : IsOneCommand → (words : List (List ℕ)) (text : List ℕ → Option (List ℕ)) (before after : List ℕ → ℕ) (one other : Outcome)
+pub outcome_once : (words : List (List ℕ)) (text : List ℕ → Option (List ℕ)) (before after : List ℕ → ℕ) (one other : Outcome)
     → AreTold words text before after → Leads words text before after one → Leads words text before after other → one ≡ other
-outcome_once law words text before after one other told is also =
-    settled_once words text before after told law one other (settled words text before after told one is) (settled words text before after told other also)
+outcome_once words text before after one other told is also =
+    settled_once words text before after told one other (settled words text before after told one is) (settled words text before after told other also)
 
 -- Where a sample tells the functions apart, that is what the words and the told texts lead to.
-pub apart_once : IsOneCommand → (words : List (List ℕ)) (text : List ℕ → Option (List ℕ)) (before after : List ℕ → ℕ) (o : Outcome)
+pub apart_once : (words : List (List ℕ)) (text : List ℕ → Option (List ℕ)) (before after : List ℕ → ℕ) (o : Outcome)
     → AreTold words text before after → SampleDiffers words text → Leads words text before after o → status_of o ≡ 1
-apart_once law words text before after o told different is =
-    apart_settled words text before after told law different o (settled words text before after told o is)
+apart_once words text before after o told different is =
+    apart_settled words text before after told different o (settled words text before after told o is)

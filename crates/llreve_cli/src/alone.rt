@@ -13,7 +13,6 @@ use crate::judge::judge;
 use crate::outcome::{NO_MEMORY, Outcome};
 use crate::stop::Stop;
 use crate::tell::tell;
-use command_line::one_command;
 use re_base::{Files, Sink};
 use std::alloc::{AllocError, Global};
 
@@ -80,6 +79,4 @@ pub fn llreve_alone<F: Files, O: Sink, E: Sink>(
 /// A law: words and told texts lead to one outcome at most, where no read fails.
 pub fn one_outcome()
     ensures { HasOneOutcome }
-{
-    one_command();
-}
+{}

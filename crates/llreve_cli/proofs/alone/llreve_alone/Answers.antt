@@ -24,3 +24,6 @@ pub tell-requires : goal.tell-requires
 tell-requires g c =
     leads_kept (map string_bytes c.args.words.now) (g.F.Files.text c.args.files.now) (g.F.Files.faults c.args.files.now) (g.F.Files.faults c.settle.new.files)
     c.in-Ok.outcome c.in-Ok.ensures
+
+pub returns-in-Ok-clause-apart : goal.returns-in-Ok-clause-apart
+returns-in-Ok-clause-apart g c told different not_five not_six = ?

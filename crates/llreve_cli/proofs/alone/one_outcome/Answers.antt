@@ -2,4 +2,4 @@ use Rattle.llreve_cli.proofs.OneOutcome.{outcome_once}
 use Rattle.llreve_cli.proofs.alone.one_outcome.Goals as goal
 
 pub returns : goal.returns
-returns c = outcome_once c.one_command.ensures
+returns c = outcome_once
