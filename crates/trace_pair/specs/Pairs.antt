@@ -11,6 +11,8 @@ use Rattle.c_ast.specs.Comparison.{Comparison}
 use Rattle.flow_graph.specs.Judged.{IsJudged}
 use Rattle.graph_run.specs.declared.skip.Skip.{Skip}
 use Rattle.graph_run.specs.declared.skip.Skip.TheVariants as skip
+use Rattle.flow_graph.specs.Built.{IsGraphOf}
+use Rattle.trace_pair.specs.declared.pairs.Graphs.{Graphs}
 use Rattle.trace_pair.specs.declared.skipped.Skipped.{Skipped}
 use Rattle.trace_pair.specs.declared.skipped.PairRefused.{PairRefused}
 use Rattle.trace_pair.specs.declared.skipped.PairRefused.TheVariants as refused
@@ -62,3 +64,8 @@ abbrev pub AnswersRun : Side → ℕ → Program → List ℤ → Result Trace P
 AnswersRun side marks f inputs (Ok trace) = ReturnsWithin marks f inputs trace
 AnswersRun side marks f inputs (Err (refused.Skipped skipped)) = (skipped.side ≡ side) × MeetsFirst marks f inputs skipped.why
 AnswersRun side marks f inputs (Err refused.Memory) = Unit {0}
+
+-- These are the graphs of both functions.
+pub record AreGraphsOf (subject : Comparison) (graphs : Graphs) : Type 0 where
+  pub first : IsGraphOf (program_of subject.first) graphs.first
+  pub second : IsGraphOf (program_of subject.second) graphs.second

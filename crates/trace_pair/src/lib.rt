@@ -15,5 +15,5 @@ mod tests;
 
 pub use inputs::input;
 pub use laws::law_of_pairs;
-pub use pairs::pair;
+pub use pairs::{Graphs, pair, pair_on};
 pub use skipped::{PairRefused, Skipped};
