@@ -34,7 +34,7 @@ reads_later text told before begun ended after name (fault.Check named inner) sa
 reads_later text told before begun ended after name (fault.Different arity) same early late refuses = refuses
 
 -- Both files were read; `told` are the texts after the first read.
-pub read_files : (words : List (List ℕ)) (text told : List ℕ → Option (List ℕ)) (command : Command) (first second : List ℕ) → IsCommand words command
+abbrev pub read_files : (words : List (List ℕ)) (text told : List ℕ → Option (List ℕ)) (command : Command) (first second : List ℕ) → IsCommand words command
     → IsRead (text command.first) first → told command.second ≡ text command.second → IsRead (told command.second) second → AreRead words text
 read_files words text told command first second commands first_read same second_read = record {
   command = command;

@@ -51,20 +51,20 @@ unread_once text one other is also =
 
 -- What a fault of the checker says of the file: no function, many, or one with a fault or with too many variables.
 data Broken (unit : List RawFunction) : CheckFault → Type 0 where
-  none : unit ≡ [] → Broken unit check.NoFunction
-  many : (n : ℕ) → 2 ≤ n → length unit ≡ n → Broken unit (check.ManyFunctions n)
-  faulty : (f : RawFunction) (first : CheckFault) → HoldsOne unit f → fault_in f ≡ Some first → Broken unit first
-  wide : (f : RawFunction) (n : ℕ) → HoldsOne unit f → fault_in f ≡ None → length (variables_of f) ≡ n → Broken unit (check.ManyVariables n)
+  no_function : unit ≡ [] → Broken unit check.NoFunction
+  many_functions : (n : ℕ) → 2 ≤ n → length unit ≡ n → Broken unit (check.ManyFunctions n)
+  one_fault : (f : RawFunction) (first : CheckFault) → HoldsOne unit f → fault_in f ≡ Some first → Broken unit first
+  many_variables : (f : RawFunction) (n : ℕ) → HoldsOne unit f → fault_in f ≡ None → length (variables_of f) ≡ n → Broken unit (check.ManyVariables n)
 
 broken : (unit : List RawFunction) (first : CheckFault) → first ≢ check.Memory → IsCheckFault unit first → Broken unit first
-broken unit check.NoFunction want is = none is
-broken unit (check.ManyFunctions n) want is = many n is.0 is.1
-broken unit (check.Undeclared name line) want is = faulty is.0 (check.Undeclared name line) is.1 is.2
-broken unit (check.Twice name line) want is = faulty is.0 (check.Twice name line) is.1 is.2
-broken unit (check.Outside line) want is = faulty is.0 (check.Outside line) is.1 is.2
-broken unit (check.MarkRange mark) want is = faulty is.0 (check.MarkRange mark) is.1 is.2
-broken unit (check.MarkTwice mark) want is = faulty is.0 (check.MarkTwice mark) is.1 is.2
-broken unit (check.ManyVariables n) want is = wide is.0 n is.1 is.2 is.3
+broken unit check.NoFunction want is = no_function is
+broken unit (check.ManyFunctions n) want is = many_functions n is.0 is.1
+broken unit (check.Undeclared name line) want is = one_fault is.0 (check.Undeclared name line) is.1 is.2
+broken unit (check.Twice name line) want is = one_fault is.0 (check.Twice name line) is.1 is.2
+broken unit (check.Outside line) want is = one_fault is.0 (check.Outside line) is.1 is.2
+broken unit (check.MarkRange mark) want is = one_fault is.0 (check.MarkRange mark) is.1 is.2
+broken unit (check.MarkTwice mark) want is = one_fault is.0 (check.MarkTwice mark) is.1 is.2
+broken unit (check.ManyVariables n) want is = many_variables is.0 n is.1 is.2 is.3
 broken unit check.Memory want is = absurd (want refl)
 
 one_is_not_none : (unit : List RawFunction) (f : RawFunction) → HoldsOne unit f → unit ≢ []
@@ -74,26 +74,26 @@ one_is_not_many : (unit : List RawFunction) (f : RawFunction) (n : ℕ) → Hold
 one_is_not_many unit f n holds many is = let one : length unit ≡ 1 = ap length holds in omega (arith, one, is)
 
 broken_once : (unit : List RawFunction) (one other : CheckFault) → Broken unit one → Broken unit other → one ≡ other
-broken_once unit one other (none _) (none _) = refl
-broken_once unit one other (none empty) (many n two is) = absurd (let zero : length unit ≡ 0 = ap length empty in omega (arith, zero, is))
-broken_once unit one other (none empty) (faulty f first holds is) = absurd (one_is_not_none unit f holds empty)
-broken_once unit one other (none empty) (wide f n holds is count) = absurd (one_is_not_none unit f holds empty)
-broken_once unit one other (many n two is) (none empty) = absurd (let zero : length unit ≡ 0 = ap length empty in omega (arith, zero, is))
-broken_once unit one other (many n two is) (many m _ also) = ap (λ (n : ℕ). check.ManyFunctions n) (sym is ∙ also)
-broken_once unit one other (many n two is) (faulty f first holds _) = absurd (one_is_not_many unit f n holds two is)
-broken_once unit one other (many n two is) (wide f _ holds _ _) = absurd (one_is_not_many unit f n holds two is)
-broken_once unit one other (faulty f first holds is) (none empty) = absurd (one_is_not_none unit f holds empty)
-broken_once unit one other (faulty f first holds _) (many n two is) = absurd (one_is_not_many unit f n holds two is)
-broken_once unit one other (faulty f first holds is) (faulty g second also_holds also) =
+broken_once unit one other (no_function _) (no_function _) = refl
+broken_once unit one other (no_function empty) (many_functions n two is) = absurd (let zero : length unit ≡ 0 = ap length empty in omega (arith, zero, is))
+broken_once unit one other (no_function empty) (one_fault f first holds is) = absurd (one_is_not_none unit f holds empty)
+broken_once unit one other (no_function empty) (many_variables f n holds is count) = absurd (one_is_not_none unit f holds empty)
+broken_once unit one other (many_functions n two is) (no_function empty) = absurd (let zero : length unit ≡ 0 = ap length empty in omega (arith, zero, is))
+broken_once unit one other (many_functions n two is) (many_functions m _ also) = ap (λ (n : ℕ). check.ManyFunctions n) (sym is ∙ also)
+broken_once unit one other (many_functions n two is) (one_fault f first holds _) = absurd (one_is_not_many unit f n holds two is)
+broken_once unit one other (many_functions n two is) (many_variables f _ holds _ _) = absurd (one_is_not_many unit f n holds two is)
+broken_once unit one other (one_fault f first holds is) (no_function empty) = absurd (one_is_not_none unit f holds empty)
+broken_once unit one other (one_fault f first holds _) (many_functions n two is) = absurd (one_is_not_many unit f n holds two is)
+broken_once unit one other (one_fault f first holds is) (one_fault g second also_holds also) =
     let same = one_function unit f g holds also_holds in
     let clash : Some first ≡ Some second = sym is ∙ ap fault_in same ∙ also in cc
-broken_once unit one other (faulty f first holds is) (wide g n also_holds also _) =
+broken_once unit one other (one_fault f first holds is) (many_variables g n also_holds also _) =
     absurd (let clash : Some first ≡ None = sym is ∙ ap fault_in (one_function unit f g holds also_holds) ∙ also in cc)
-broken_once unit one other (wide f n holds is count) (none empty) = absurd (one_is_not_none unit f holds empty)
-broken_once unit one other (wide f n holds is count) (many m two also) = absurd (one_is_not_many unit f m holds two also)
-broken_once unit one other (wide f n holds is _) (faulty g second also_holds also) =
+broken_once unit one other (many_variables f n holds is count) (no_function empty) = absurd (one_is_not_none unit f holds empty)
+broken_once unit one other (many_variables f n holds is count) (many_functions m two also) = absurd (one_is_not_many unit f m holds two also)
+broken_once unit one other (many_variables f n holds is _) (one_fault g second also_holds also) =
     absurd (let clash : None ≡ Some second = sym is ∙ ap fault_in (one_function unit f g holds also_holds) ∙ also in cc)
-broken_once unit one other (wide f n holds is count) (wide g m also_holds also also_count) =
+broken_once unit one other (many_variables f n holds is count) (many_variables g m also_holds also also_count) =
     ap (λ (n : ℕ). check.ManyVariables n) (sym count ∙ ap (λ (f : RawFunction). length (variables_of f)) (one_function unit f g holds also_holds) ∙ also_count)
 
 unchecked_once : (text : List ℕ) (one other : CheckFault) → IsUnchecked text one → IsUnchecked text other → one ≡ other
@@ -221,10 +221,10 @@ apart_judged command a b f g index pair o short_a short_b reads reads' same belo
 
 module _ (words : List (List ℕ)) (text : List ℕ → Option (List ℕ)) (before after : List ℕ → ℕ) (told : AreTold words text before after) where
   -- the told texts of a command's files
-  a_of : (command : Command) → IsCommand words command → List ℕ
+  abbrev a_of : (command : Command) → IsCommand words command → List ℕ
   a_of command commands = (told.first command commands).0
 
-  b_of : (command : Command) → IsCommand words command → List ℕ
+  abbrev b_of : (command : Command) → IsCommand words command → List ℕ
   b_of command commands = (told.second command commands).0
 
   -- Bytes that were read are the told text, which is not too long.
@@ -236,7 +236,11 @@ module _ (words : List (List ℕ)) (text : List ℕ → Option (List ℕ)) (befo
   -- The outcome is the one that these words lead to without a command, or with this one.
   data Settled : Outcome → Type 0 where
     nothing : ((command : Command) → ¬ IsCommand words command) → Settled (outcome.Refused fault.Usage)
-    judged : (command : Command) (commands : IsCommand words command) (o : Outcome) → Judged command (a_of command commands) (b_of command commands) o → Settled o
+    judged : (command : Command) (a b : List ℕ) (o : Outcome) → IsCommand words command → text command.first ≡ Some a → text command.second ≡ Some b
+        → Judged command a b o → Settled o
+
+  settled_by : (command : Command) (commands : IsCommand words command) (o : Outcome) → Judged command (a_of command commands) (b_of command commands) o → Settled o
+  settled_by command commands o is = judged command (a_of command commands) (b_of command commands) o commands (told.first command commands).1 (told.second command commands).1 is
 
   unread_first : (command : Command) (commands : IsCommand words command) (f : Fault) → RefusesRead text before after command.first f
       → Judged command (a_of command commands) (b_of command commands) (outcome.Refused f)
@@ -264,23 +268,23 @@ module _ (words : List (List ℕ)) (text : List ℕ → Option (List ℕ)) (befo
 
   settled : (o : Outcome) → Leads words text before after o → Settled o
   settled o (no_command none) = nothing none
-  settled o (first_unread command f commands refuses) = judged command commands _ (unread_first command commands f refuses)
+  settled o (first_unread command f commands refuses) = settled_by command commands _ (unread_first command commands f refuses)
   settled o (second_unread command bytes f commands read refuses) =
-      judged command commands _ (unread_second command commands f (read_told command.first bytes _ (told.first command commands).1 read).1 refuses)
+      settled_by command commands _ (unread_second command commands f (read_told command.first bytes _ (told.first command commands).1 read).1 refuses)
   settled o (first_refused files f refuses) =
       let first = read_told files.command.first files.first_text _ (told.first files.command files.commands).1 files.first_read in
       let second = read_told files.command.second files.second_text _ (told.second files.command files.commands).1 files.second_read in
-      judged files.command files.commands _ (first_bad f first.1 second.1 (subst (λ (list : List ℕ). RefusesText files.command.first list f) first.0 refuses))
+      settled_by files.command files.commands _ (first_bad f first.1 second.1 (subst (λ (list : List ℕ). RefusesText files.command.first list f) first.0 refuses))
   settled o (second_refused files made f reads refuses) =
       let first = read_told files.command.first files.first_text _ (told.first files.command files.commands).1 files.first_read in
       let second = read_told files.command.second files.second_text _ (told.second files.command files.commands).1 files.second_read in
-      judged files.command files.commands _ (second_bad made f first.1 second.1 (subst (λ (list : List ℕ). Reads list made) first.0 reads)
+      settled_by files.command files.commands _ (second_bad made f first.1 second.1 (subst (λ (list : List ℕ). Reads list made) first.0 reads)
       (subst (λ (list : List ℕ). RefusesText files.command.second list f) second.0 refuses))
   settled o (other_arity functions differ) =
       let files = functions.files in
       let first = read_told files.command.first files.first_text _ (told.first files.command files.commands).1 files.first_read in
       let second = read_told files.command.second files.second_text _ (told.second files.command files.commands).1 files.second_read in
-      judged files.command files.commands _ (uneven functions.first functions.second first.1 second.1
+      settled_by files.command files.commands _ (uneven functions.first functions.second first.1 second.1
       (subst (λ (list : List ℕ). Reads list functions.first) first.0 functions.first_parsed)
       (subst (λ (list : List ℕ). Reads list functions.second) second.0 functions.second_parsed) differ)
   settled o (compared comparable e compares) =
@@ -288,33 +292,31 @@ module _ (words : List (List ℕ)) (text : List ℕ → Option (List ℕ)) (befo
       let files = functions.files in
       let first = read_told files.command.first files.first_text _ (told.first files.command files.commands).1 files.first_read in
       let second = read_told files.command.second files.second_text _ (told.second files.command files.commands).1 files.second_read in
-      judged files.command files.commands _ (even functions.first functions.second e first.1 second.1
+      settled_by files.command files.commands _ (even functions.first functions.second e first.1 second.1
       (subst (λ (list : List ℕ). Reads list functions.first) first.0 functions.first_parsed)
       (subst (λ (list : List ℕ). Reads list functions.second) second.0 functions.second_parsed) comparable.arity compares)
 
   settled_once : (one other : Outcome) → Settled one → Settled other → one ≡ other
   settled_once one other (nothing _) (nothing _) = refl
-  settled_once one other (nothing none) (judged command commands _ _) = absurd (none command commands)
-  settled_once one other (judged command commands _ _) (nothing none) = absurd (none command commands)
-  settled_once one other (judged command commands _ is) (judged command' commands' _ also) =
+  settled_once one other (nothing without) (judged command _ _ _ commands _ _ _) = absurd (without command commands)
+  settled_once one other (judged command _ _ _ commands _ _ _) (nothing without) = absurd (without command commands)
+  settled_once one other (judged command a b _ commands first second is) (judged command' a' b' _ commands' first' second' also) =
       let same = one_command_only words command command' commands commands' in
-      let firsts : a_of command commands ≡ a_of command' commands' =
-      let wrapped : Some (a_of command commands) ≡ Some (a_of command' commands') =
-      sym (told.first command commands).1 ∙ ap (λ (c : Command). text c.first) same ∙ (told.first command' commands').1 in cc in
-      let seconds : b_of command commands ≡ b_of command' commands' =
-      let wrapped : Some (b_of command commands) ≡ Some (b_of command' commands') =
-      sym (told.second command commands).1 ∙ ap (λ (c : Command). text c.second) same ∙ (told.second command' commands').1 in cc in
-      judged_once command' (a_of command' commands') (b_of command' commands') one other (rw (sym same, sym firsts, sym seconds) is) also
+      let firsts : a ≡ a' = let wrapped : Some a ≡ Some a' = sym first ∙ ap (λ (c : Command). text c.first) same ∙ first' in cc in
+      let seconds : b ≡ b' = let wrapped : Some b ≡ Some b' = sym second ∙ ap (λ (c : Command). text c.second) same ∙ second' in cc in
+      judged_once command' a' b' one other
+      (subst (λ (list : List ℕ). Judged command' a' list one) seconds (subst (λ (list : List ℕ). Judged command' list b one) firsts
+      (subst (λ (c : Command). Judged c a b one) same is))) also
 
   apart_settled : (different : SampleDiffers words text) (o : Outcome) → Settled o → status_of o ≡ 1
-  apart_settled different o (nothing none) = absurd (none different.comparable.functions.files.command different.comparable.functions.files.commands)
-  apart_settled different o (judged command commands _ is) =
+  apart_settled different o (nothing without) = absurd (without different.comparable.functions.files.command different.comparable.functions.files.commands)
+  apart_settled different o (judged command a b _ commands is_first is_second is) =
       let functions = different.comparable.functions in
       let files = functions.files in
       let same : files.command ≡ command = one_command_only words files.command command files.commands commands in
-      let first = read_told files.command.first files.first_text (a_of command commands) (ap (λ (c : Command). text c.first) same ∙ (told.first command commands).1) files.first_read in
-      let second = read_told files.command.second files.second_text (b_of command commands) (ap (λ (c : Command). text c.second) same ∙ (told.second command commands).1) files.second_read in
-      apart_judged command (a_of command commands) (b_of command commands) functions.first functions.second different.index different.pair o first.1 second.1
+      let first = read_told files.command.first files.first_text a (ap (λ (c : Command). text c.first) same ∙ is_first) files.first_read in
+      let second = read_told files.command.second files.second_text b (ap (λ (c : Command). text c.second) same ∙ is_second) files.second_read in
+      apart_judged command a b functions.first functions.second different.index different.pair o first.1 second.1
       (subst (λ (list : List ℕ). Reads list functions.first) first.0 functions.first_parsed)
       (subst (λ (list : List ℕ). Reads list functions.second) second.0 functions.second_parsed) different.comparable.arity
       (subst (λ (c : Command). different.index < c.settings.samples) same different.below)

@@ -9,14 +9,15 @@ use Rattle.report.specs.declared.early.Early.TheVariants as early
 use Rattle.llreve_cli.specs.Samples.{TellsApart, IsAlike, AreAlike, IsDifference, AreAllAlike}
 use Rattle.llreve_cli.specs.Compare.{HaveOneValue, Compares}
 use Rattle.llreve_cli.specs.Told.{early_status}
+use Rattle.llreve_cli.proofs.Sampling.{alike_not_apart}
 
 module _ (subject : Comparison) where
   -- ---- samples
 
   alike_once : (index : ℕ) (one other : Option Skipped) → IsAlike subject index one → IsAlike subject index other → one ≡ other
   alike_once index None None is also = refl
-  alike_once index None (Some skipped) is also = absurd (pair_is_no_skip subject index is.0 skipped is.1.0 also)
-  alike_once index (Some skipped) None is also = absurd (pair_is_no_skip subject index also.0 skipped also.1.0 is)
+  alike_once index None (Some skipped) is also = absurd (pair_is_no_skip subject index is.0 skipped is.1 also)
+  alike_once index (Some skipped) None is also = absurd (pair_is_no_skip subject index also.0 skipped also.1 is)
   alike_once index (Some skipped) (Some other) is also = ap (λ (s : Skipped). Some s) (one_skip subject index skipped other is also)
 
   all_alike_once : (index : ℕ) (one other : List (Option Skipped)) → length one ≡ length other → AreAlike subject index one → AreAlike subject index other → one ≡ other
@@ -27,20 +28,6 @@ module _ (subject : Comparison) where
       let heads = alike_once index sample first are.0 also.0 in
       let tails = all_alike_once (suc index) samples others (omega (arith, same)) are.1 also.1 in
       ap (λ (s : Option Skipped). s ∷ samples) heads ∙ ap (λ (list : List (Option Skipped)). first ∷ list) tails
-
-  -- the sample of this index
-  alike_at : (from i : ℕ) (samples : List (Option Skipped)) → i < length samples → AreAlike subject from samples
-      → (sample : Option Skipped) × IsAlike subject (from + i) sample
-  alike_at from i [] below are = absurd (omega arith)
-  alike_at from zero (sample ∷ samples) below are = (sample, subst (λ (k : ℕ). IsAlike subject k sample) (omega arith) are.0)
-  alike_at from (suc i) (sample ∷ samples) below are =
-      let found = alike_at (suc from) i samples (omega arith) are.1 in
-      (found.0, subst (λ (k : ℕ). IsAlike subject k found.0) (omega arith) found.1)
-
-  not_both : (index : ℕ) (pair : Pair) (sample : Option Skipped) → TellsApart subject index pair → IsAlike subject index sample → ⊥
-  not_both index pair None apart alike =
-      apart.differ (subst (λ (p : Pair). p.first.result ≡ p.second.result) (one_pair subject index alike.0 pair alike.1.0 apart.is) alike.1.1)
-  not_both index pair (Some skipped) apart alike = pair_is_no_skip subject index pair skipped apart.is alike
 
   -- ---- differences
 
@@ -64,8 +51,7 @@ module _ (subject : Comparison) where
       apart.differ (value.never_differ pair.input pair.first.result pair.second.result traces.arity traces.first.returns traces.second.returns)
 
   all_or_apart : (index : ℕ) (pair : Pair) (samples : List (Option Skipped)) → index < subject.settings.samples → TellsApart subject index pair → ¬ AreAllAlike subject samples
-  all_or_apart index pair samples below apart all =
-      let found = alike_at 0 index samples (omega (arith, all.all)) all.alike in not_both index pair found.0 apart found.1
+  all_or_apart index pair samples below apart all = alike_not_apart subject samples all.alike index pair (omega (arith, all.all)) apart
 
   -- ---- verdicts
 

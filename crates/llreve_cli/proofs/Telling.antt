@@ -1,5 +1,5 @@
 -- What the statuses tell.
-use Rattle.std.proofs.Common.{◌≡◌, ◌≢◌, ℕ, suc, ◌∷◌, [], List, Option, Some, None, ℤ, refl, sym, subst, arith}
+use Rattle.std.proofs.Common.{◌≡◌, ◌≢◌, ℕ, ◌<◌, ◌≤◌, suc, ◌∷◌, [], List, Option, Some, None, ℤ, refl, sym, subst, arith}
 use Rattle.std.specs.Io.KnownBytes.{Appends}
 use Rattle.std.specs.List.{All}
 use Rattle.std.proofs.lemmas.List.Elements.{All-cons}
@@ -116,7 +116,7 @@ module _ (words : List (List ℕ)) (text : List ℕ → Option (List ℕ)) (befo
     verdict-told : (o : Outcome) → Leads words text before after o → Tells o out out' err err' p p' q q' status → status < 3 → ToldVerdict status
     verdict-told (outcome.Verdict e) leads tells low =
         let whole = tells.whole (λ e. omega arith) (λ e. omega arith) in
-        (e, (sym whole.0, (leads-verdict (outcome.Verdict e) leads e refl, whole.1.0)))
+        (e, sym whole.0, leads-verdict (outcome.Verdict e) leads e refl, whole.1)
     verdict-told (outcome.Refused f) leads tells low =
         absurd (let whole = tells.whole (λ e. omega arith) (λ e. omega arith) in omega (arith, whole.0, refused-status f))
 
@@ -125,19 +125,19 @@ module _ (words : List (List ℕ)) (text : List ℕ → Option (List ℕ)) (befo
     equivalent-told o leads tells is = on (verdict-told o leads tells (omega arith))
       where
         on : ToldVerdict status → AreEquivalent words text × Appends out out' (early_text early.Equivalent)
-        on (early.Equivalent, told) = (record { comparable = told.1.0.0; value = told.1.0.1 }, told.1.1)
-        on (early.Different index input first second, told) = absurd (omega (arith, told.0))
-        on (early.Unknown samples, told) = absurd (omega (arith, told.0))
+        on (early.Equivalent, same, verdict, told) = (record { comparable = verdict.0; value = verdict.1 }, told)
+        on (early.Different index input first second, same, verdict, told) = absurd (omega (arith, same, is))
+        on (early.Unknown samples, same, verdict, told) = absurd (omega (arith, same, is))
 
     pub different-told : (o : Outcome) → Leads words text before after o → Tells o out out' err err' p p' q q' status → status ≡ 1
         → (d : AreDifferent words text) × Appends out out' (early_text (early.Different d.index d.input d.first d.second))
     different-told o leads tells is = on (verdict-told o leads tells (omega arith))
       where
         on : ToldVerdict status → (d : AreDifferent words text) × Appends out out' (early_text (early.Different d.index d.input d.first d.second))
-        on (early.Equivalent, told) = absurd (omega (arith, told.0))
-        on (early.Different index input first second, told) =
-            let comparable = told.1.0.0 in
-            let difference : IsDifference (subject_of comparable) index input first second = told.1.0.1 in
+        on (early.Equivalent, same, verdict, told) = absurd (omega (arith, same, is))
+        on (early.Different index input first second, same, verdict, told) =
+            let comparable = verdict.0 in
+            let difference : IsDifference (subject_of comparable) index input first second = verdict.1 in
             let traces = pair_has_traces (subject_of comparable) index difference.pair difference.apart.is in
             (record {
               comparable = comparable;
@@ -148,14 +148,14 @@ module _ (words : List (List ℕ)) (text : List ℕ → Option (List ℕ)) (befo
               difference = difference;
               first_returns = rw (difference.of_input, difference.of_first) traces.first.returns;
               second_returns = rw (difference.of_input, difference.of_second) traces.second.returns;
-            }, told.1.1)
-        on (early.Unknown samples, told) = absurd (omega (arith, told.0))
+            }, told)
+        on (early.Unknown samples, same, verdict, told) = absurd (omega (arith, same, is))
 
     pub unknown-told : (o : Outcome) → Leads words text before after o → Tells o out out' err err' p p' q q' status → status ≡ 2
         → (u : AreUnknown words text) × Appends out out' (early_text (early.Unknown u.samples))
     unknown-told o leads tells is = on (verdict-told o leads tells (omega arith))
       where
         on : ToldVerdict status → (u : AreUnknown words text) × Appends out out' (early_text (early.Unknown u.samples))
-        on (early.Equivalent, told) = absurd (omega (arith, told.0))
-        on (early.Different index input first second, told) = absurd (omega (arith, told.0))
-        on (early.Unknown samples, told) = (record { comparable = told.1.0.0; samples = samples; unknown = told.1.0.1 }, told.1.1)
+        on (early.Equivalent, same, verdict, told) = absurd (omega (arith, same, is))
+        on (early.Different index input first second, same, verdict, told) = absurd (omega (arith, same, is))
+        on (early.Unknown samples, same, verdict, told) = (record { comparable = verdict.0; samples = samples; unknown = verdict.1 }, told)

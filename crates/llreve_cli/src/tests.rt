@@ -176,8 +176,13 @@ fn texts_are_compared(rt: HostRuntime) -> Result<(), Fail> {
             EQUAL,
         ),
         (
-            "int f(int a){return 1125899906842624;}",
-            "int f(int a){return 1125899906842624;}",
+            "int f(int a){return 9223372036854775807;}",
+            "int f(int a){return 9223372036854775807;}",
+            EQUAL,
+        ),
+        (
+            "int f(void){int x = x + 1; return x;}",
+            "int f(void){return 1;}",
             EQUAL,
         ),
         (

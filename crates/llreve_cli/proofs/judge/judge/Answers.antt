@@ -23,3 +23,53 @@ returns-in_err-second_text g c =
     (g.F.Files.text c.read_file.new.files) (g.F.Files.faults c.read_file.new.files) c.in_ok-command.command c.in_ok-first_text.first_text.items c.in_err-second_text.field-0.0
     c.in_ok-command.ensures.command c.in_ok-first_text.ensures.read (c.read_file.ensures.told c.in_ok-command.command.second) (c.read_file.ensures.later c.in_ok-command.command.second)
     c.in_err-second_text.ensures.stopped)
+
+pub returns-in_err-first : goal.returns-in_err-first
+returns-in_err-first g c =
+    let p = err_from_is_err_and c.from_residual-in_err-first.result c.from_residual-in_err-first.ensures.1 in
+    let command = c.in_ok-command.command in
+    let files = read_files (map string_bytes c.args.words.now) (g.F.Files.text c.args.files.now) (g.F.Files.text c.read_file.new.files) command
+    c.in_ok-first_text.first_text.items c.in_ok-second_text.second_text.items c.in_ok-command.ensures.command c.in_ok-first_text.ensures.read
+    (c.read_file.ensures.told command.second) c.in_ok-second_text.ensures.read in
+    rw (p.1, p.2) (first_text_stop (map string_bytes c.args.words.now) (g.F.Files.text c.args.files.now) (g.F.Files.faults c.args.files.now) (g.F.Files.faults c.read_file-2.new.files)
+    files c.in_err-first.field-0.0 (rw c.deref.ensures.value at c.in_err-first.ensures.stopped))
+
+pub returns-in_err-second : goal.returns-in_err-second
+returns-in_err-second g c =
+    let p = err_from_is_err_and c.from_residual-in_err-second.result c.from_residual-in_err-second.ensures.1 in
+    let command = c.in_ok-command.command in
+    let files = read_files (map string_bytes c.args.words.now) (g.F.Files.text c.args.files.now) (g.F.Files.text c.read_file.new.files) command
+    c.in_ok-first_text.first_text.items c.in_ok-second_text.second_text.items c.in_ok-command.ensures.command c.in_ok-first_text.ensures.read
+    (c.read_file.ensures.told command.second) c.in_ok-second_text.ensures.read in
+    rw (p.1, p.2) (second_text_stop (map string_bytes c.args.words.now) (g.F.Files.text c.args.files.now) (g.F.Files.faults c.args.files.now) (g.F.Files.faults c.read_file-2.new.files)
+    files c.in_ok-first.first c.in_err-second.field-0.0 (rw c.deref.ensures.value at c.in_ok-first.ensures.read) (rw c.deref-2.ensures.value at c.in_err-second.ensures.stopped))
+
+pub returns-in_err-subject : goal.returns-in_err-subject
+returns-in_err-subject g c =
+    let p = err_from_is_err_and c.from_residual-in_err-subject.result c.from_residual-in_err-subject.ensures.1 in
+    let command = c.in_ok-command.command in
+    let functions : AreFunctions (map string_bytes c.args.words.now) (g.F.Files.text c.args.files.now) = record {
+      files = read_files (map string_bytes c.args.words.now) (g.F.Files.text c.args.files.now) (g.F.Files.text c.read_file.new.files) command
+      c.in_ok-first_text.first_text.items c.in_ok-second_text.second_text.items c.in_ok-command.ensures.command c.in_ok-first_text.ensures.read
+      (c.read_file.ensures.told command.second) c.in_ok-second_text.ensures.read;
+      first = c.in_ok-first.first;
+      second = c.in_ok-second.second;
+      first_parsed = rw c.deref.ensures.value at c.in_ok-first.ensures.read;
+      second_parsed = rw c.deref-2.ensures.value at c.in_ok-second.ensures.read;
+    } in
+    rw (p.1, p.2) (arity_stop (map string_bytes c.args.words.now) (g.F.Files.text c.args.files.now) (g.F.Files.faults c.args.files.now) (g.F.Files.faults c.read_file-2.new.files)
+    functions c.in_err-subject.field-0.0 c.in_err-subject.ensures.stopped)
+
+pub returns : goal.returns
+returns g c =
+    let command = c.in_ok-command.command in
+    let functions : AreFunctions (map string_bytes c.args.words.now) (g.F.Files.text c.args.files.now) = record {
+      files = read_files (map string_bytes c.args.words.now) (g.F.Files.text c.args.files.now) (g.F.Files.text c.read_file.new.files) command
+      c.in_ok-first_text.first_text.items c.in_ok-second_text.second_text.items c.in_ok-command.ensures.command c.in_ok-first_text.ensures.read
+      (c.read_file.ensures.told command.second) c.in_ok-second_text.ensures.read;
+      first = c.in_ok-first.first;
+      second = c.in_ok-second.second;
+      first_parsed = rw c.deref.ensures.value at c.in_ok-first.ensures.read;
+      second_parsed = rw c.deref-2.ensures.value at c.in_ok-second.ensures.read;
+    } in
+    compared (record { functions = functions; arity = c.in_ok-subject.ensures.arity }) c.in_ok-compare.field-0 (rw c.in_ok-subject.ensures.subject at c.in_ok-compare.ensures)
