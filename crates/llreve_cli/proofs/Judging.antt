@@ -1,113 +1,100 @@
 -- From what the parts tell to what the words and the files lead to.
-use Rattle.std.proofs.Common.{◌≡◌, ℕ, ◌≤◌, List, length, Option, Some, sym, subst, arith}
+use Rattle.std.proofs.Common.{◌≡◌, ℕ, ◌≤◌, List, Option, refl, sym, subst, arith}
 use Rattle.c_ast.specs.Function.{Function}
-use Rattle.llreve_cli.specs.Reads.{Reads}
+use Rattle.c_ast.specs.declared.subject.Arity.{Arity}
 use Rattle.re_base.specs.Causes.{Rose}
 use Rattle.re_base.specs.Told.{IsWhole, IsLong}
-use Rattle.c_ast.specs.declared.subject.Arity.{Arity}
-use Rattle.llreve_cli.specs.declared.fault.Fault.{Fault}
-use Rattle.llreve_cli.specs.declared.fault.Fault.TheVariants as fault
+use Rattle.command_line.specs.declared.words.Command.{Command}
+use Rattle.command_line.specs.CommandLine.{IsCommand}
+use Rattle.report.specs.declared.fault.Fault.{Fault}
+use Rattle.report.specs.declared.fault.Fault.TheVariants as fault
 use Rattle.llreve_cli.specs.declared.stop.Stop.{Stop}
 use Rattle.llreve_cli.specs.declared.stop.Stop.TheVariants as stop
-use Rattle.llreve_cli.specs.declared.outcome.Outcome as outcome_type
 use Rattle.llreve_cli.specs.declared.outcome.Outcome.TheVariants as outcome
-use Rattle.llreve_cli.specs.Words.{operands}
-use Rattle.llreve_cli.specs.Leads.{IsRead, AreRead, AreFunctions, Leads, other_arity, other_forms, equal_forms, first_unread, first_long, second_unread, second_long, first_faulty, first_unparsed, first_unchecked, second_faulty, second_unparsed, second_unchecked}
-use Rattle.llreve_cli.specs.Stops.{StopsReading, StopsParsing, StopsComparing, StopLeads}
-use Rattle.llreve_cli.specs.Compare.{Compares}
+use Rattle.llreve_cli.specs.Reads.{Reads}
+use Rattle.llreve_cli.specs.Leads.{IsRead, AreRead, AreFunctions, RefusesRead, RefusesText, Leads, no_command, first_unread, second_unread, first_refused, second_refused, other_arity}
+use Rattle.llreve_cli.specs.Judged.{RefusesWords, RefusesArity}
+use Rattle.llreve_cli.specs.Stops.{StopsBy, LeadsToFault}
+
+-- What each fault of one kind is of another kind too holds of the stop.
+pub StopsBy-weaker : (P Q : Fault → Type 0) (why : Stop) → ((f : Fault) → P f → Q f) → StopsBy P why → StopsBy Q why
+StopsBy-weaker P Q stop.Memory weaker stops = tt
+StopsBy-weaker P Q (stop.Refused f) weaker stops = weaker f stops
+
+-- A file that was read later in the call was not read in the call.
+reads_later : (text told : List ℕ → Option (List ℕ)) (before begun ended after : List ℕ → ℕ) (name : List ℕ) (f : Fault) → told name ≡ text name
+    → before name ≤ begun name → ended name ≤ after name → RefusesRead told begun ended name f → RefusesRead text before after name f
+reads_later text told before begun ended after name fault.Usage same early late refuses = refuses
+reads_later text told before begun ended after name (fault.Read named) same early late refuses =
+    let rose : Rose (before name) (after name) = omega (arith, refuses.1) in (refuses.0, rose)
+reads_later text told before begun ended after name (fault.TooLong named) same early late refuses = (refuses.0, subst IsLong same refuses.1)
+reads_later text told before begun ended after name (fault.Token named inner) same early late refuses = refuses
+reads_later text told before begun ended after name (fault.Reader named inner) same early late refuses = refuses
+reads_later text told before begun ended after name (fault.Check named inner) same early late refuses = refuses
+reads_later text told before begun ended after name (fault.Different arity) same early late refuses = refuses
 
 -- Both files were read; `told` are the texts after the first read.
-abbrev pub read_files : (words : List (List ℕ)) (text told : List ℕ → Option (List ℕ)) (first second s t : List ℕ) → Some (first, second) ≡ operands words
-    → IsWhole (text first) s → length s ≤ 65536 → told second ≡ text second → IsWhole (told second) t → length t ≤ 65536 → AreRead words text
-read_files words text told first second s t command first_whole first_short same second_whole second_short = record {
-  first_name = first;
-  second_name = second;
-  command = sym command;
-  first_text = s;
-  second_text = t;
-  first_read = record { whole = first_whole; short = first_short };
-  second_read = record { whole = subst (λ (o : Option (List ℕ)). IsWhole o t) same second_whole; short = second_short };
+abbrev pub read_files : (words : List (List ℕ)) (text told : List ℕ → Option (List ℕ)) (command : Command) (first second : List ℕ) → IsCommand words command
+    → IsRead (text command.first) first → told command.second ≡ text command.second → IsRead (told command.second) second → AreRead words text
+read_files words text told command first second commands first_read same second_read = record {
+  command = command;
+  commands = commands;
+  first_text = first;
+  second_text = second;
+  first_read = first_read;
+  second_read = subst (λ (o : Option (List ℕ)). IsRead o second) same second_read;
 }
 
 module _ (words : List (List ℕ)) (text : List ℕ → Option (List ℕ)) (before after : List ℕ → ℕ) where
-  -- The words and the files lead to the refusal of the file with this name.
-  abbrev LeadsTo : (List ℕ → Fault) → List ℕ → Type 0
-  LeadsTo refusal name = Leads words text before after (outcome.Refused (refusal name))
+  abbrev LeadsTo : Fault → Type 0
+  LeadsTo f = LeadsToFault words text before after f
 
-  -- A refusal tells the name of the file that was read.
-  of_name : (refusal : List ℕ → Fault) (named name : List ℕ) → named ≡ name → LeadsTo refusal name → LeadsTo refusal named
-  of_name refusal named name same leads = subst (LeadsTo refusal) (sym same) leads
+  words_refused : (f : Fault) → RefusesWords words f → LeadsTo f
+  words_refused fault.Usage refuses = no_command refuses
+  words_refused (fault.Read named) refuses = absurd refuses
+  words_refused (fault.TooLong named) refuses = absurd refuses
+  words_refused (fault.Token named inner) refuses = absurd refuses
+  words_refused (fault.Reader named inner) refuses = absurd refuses
+  words_refused (fault.Check named inner) refuses = absurd refuses
+  words_refused (fault.Different arity) refuses = absurd refuses
+
+  -- The words were refused.
+  pub words_stop : (why : Stop) → StopsBy (RefusesWords words) why → StopsBy LeadsTo why
+  words_stop why stops = StopsBy-weaker (RefusesWords words) LeadsTo why words_refused stops
 
   -- The first file was not read; `mid` are the counts after that read.
-  pub first_stop : (mid : List ℕ → ℕ) (first second : List ℕ) (why : Stop) → Some (first, second) ≡ operands words → mid first ≤ after first
-      → StopsReading text before mid first why → StopLeads words text before after why
-  first_stop mid first second stop.Memory command later stops = tt
-  first_stop mid first second (stop.Refused fault.Usage) command later stops = absurd stops
-  first_stop mid first second (stop.Refused (fault.Read named)) command later stops =
-      let rose : Rose (before first) (after first) = omega (arith, stops.1) in
-      of_name fault.Read named first stops.0 (first_unread first second (sym command) rose)
-  first_stop mid first second (stop.Refused (fault.TooLong named)) command later stops =
-      of_name fault.TooLong named first stops.0 (first_long first second (sym command) stops.1)
-  first_stop mid first second (stop.Refused (fault.Token named inner)) command later stops = absurd stops
-  first_stop mid first second (stop.Refused (fault.Reader named inner)) command later stops = absurd stops
-  first_stop mid first second (stop.Refused (fault.Check named inner)) command later stops = absurd stops
-  first_stop mid first second (stop.Refused (fault.Different arity)) command later stops = absurd stops
+  pub first_stop : (mid : List ℕ → ℕ) (command : Command) (why : Stop) → IsCommand words command → mid command.first ≤ after command.first
+      → StopsBy (RefusesRead text before mid command.first) why → StopsBy LeadsTo why
+  first_stop mid command why commands later stops =
+      StopsBy-weaker (RefusesRead text before mid command.first) LeadsTo why
+      (λ f refuses. first_unread command f commands (reads_later text text before before mid after command.first f refl (omega arith) later refuses)) stops
 
   -- The second file was not read; `told` are the texts and `mid` the counts after the first read.
-  pub second_stop : (told : List ℕ → Option (List ℕ)) (mid : List ℕ → ℕ) (first second bytes : List ℕ) (why : Stop) → Some (first, second) ≡ operands words
-      → IsRead (text first) bytes → told second ≡ text second → before second ≤ mid second
-      → StopsReading told mid after second why → StopLeads words text before after why
-  second_stop told mid first second bytes stop.Memory command read same earlier stops = tt
-  second_stop told mid first second bytes (stop.Refused fault.Usage) command read same earlier stops = absurd stops
-  second_stop told mid first second bytes (stop.Refused (fault.Read named)) command read same earlier stops =
-      let rose : Rose (before second) (after second) = omega (arith, stops.1) in
-      of_name fault.Read named second stops.0 (second_unread first second bytes (sym command) read rose)
-  second_stop told mid first second bytes (stop.Refused (fault.TooLong named)) command read same earlier stops =
-      of_name fault.TooLong named second stops.0 (second_long first second bytes (sym command) read (subst IsLong same stops.1))
-  second_stop told mid first second bytes (stop.Refused (fault.Token named inner)) command read same earlier stops = absurd stops
-  second_stop told mid first second bytes (stop.Refused (fault.Reader named inner)) command read same earlier stops = absurd stops
-  second_stop told mid first second bytes (stop.Refused (fault.Check named inner)) command read same earlier stops = absurd stops
-  second_stop told mid first second bytes (stop.Refused (fault.Different arity)) command read same earlier stops = absurd stops
+  pub second_stop : (told : List ℕ → Option (List ℕ)) (mid : List ℕ → ℕ) (command : Command) (bytes : List ℕ) (why : Stop) → IsCommand words command
+      → IsRead (text command.first) bytes → told command.second ≡ text command.second → before command.second ≤ mid command.second
+      → StopsBy (RefusesRead told mid after command.second) why → StopsBy LeadsTo why
+  second_stop told mid command bytes why commands read same earlier stops =
+      StopsBy-weaker (RefusesRead told mid after command.second) LeadsTo why
+      (λ f refuses. second_unread command bytes f commands read (reads_later text told before mid after after command.second f same earlier (omega arith) refuses)) stops
 
-  pub first_text_stop : (files : AreRead words text) (why : Stop) → StopsParsing files.first_name files.first_text why → StopLeads words text before after why
-  first_text_stop files stop.Memory stops = tt
-  first_text_stop files (stop.Refused fault.Usage) stops = absurd stops
-  first_text_stop files (stop.Refused (fault.Read named)) stops = absurd stops
-  first_text_stop files (stop.Refused (fault.TooLong named)) stops = absurd stops
-  first_text_stop files (stop.Refused (fault.Token named inner)) stops =
-      of_name (λ name. fault.Token name inner) named files.first_name stops.0 (first_faulty files inner stops.1)
-  first_text_stop files (stop.Refused (fault.Reader named inner)) stops =
-      of_name (λ name. fault.Reader name inner) named files.first_name stops.0 (first_unparsed files inner stops.1)
-  first_text_stop files (stop.Refused (fault.Check named inner)) stops =
-      of_name (λ name. fault.Check name inner) named files.first_name stops.0 (first_unchecked files inner stops.1)
-  first_text_stop files (stop.Refused (fault.Different arity)) stops = absurd stops
+  pub first_text_stop : (files : AreRead words text) (why : Stop) → StopsBy (RefusesText files.command.first files.first_text) why → StopsBy LeadsTo why
+  first_text_stop files why stops =
+      StopsBy-weaker (RefusesText files.command.first files.first_text) LeadsTo why (λ f refuses. first_refused files f refuses) stops
 
   pub second_text_stop : (files : AreRead words text) (first : Function) (why : Stop) → Reads files.first_text first
-      → StopsParsing files.second_name files.second_text why → StopLeads words text before after why
-  second_text_stop files first stop.Memory parsed stops = tt
-  second_text_stop files first (stop.Refused fault.Usage) parsed stops = absurd stops
-  second_text_stop files first (stop.Refused (fault.Read named)) parsed stops = absurd stops
-  second_text_stop files first (stop.Refused (fault.TooLong named)) parsed stops = absurd stops
-  second_text_stop files first (stop.Refused (fault.Token named inner)) parsed stops =
-      of_name (λ name. fault.Token name inner) named files.second_name stops.0 (second_faulty files first inner parsed stops.1)
-  second_text_stop files first (stop.Refused (fault.Reader named inner)) parsed stops =
-      of_name (λ name. fault.Reader name inner) named files.second_name stops.0 (second_unparsed files first inner parsed stops.1)
-  second_text_stop files first (stop.Refused (fault.Check named inner)) parsed stops =
-      of_name (λ name. fault.Check name inner) named files.second_name stops.0 (second_unchecked files first inner parsed stops.1)
-  second_text_stop files first (stop.Refused (fault.Different arity)) parsed stops = absurd stops
+      → StopsBy (RefusesText files.command.second files.second_text) why → StopsBy LeadsTo why
+  second_text_stop files first why reads stops =
+      StopsBy-weaker (RefusesText files.command.second files.second_text) LeadsTo why (λ f refuses. second_refused files first f reads refuses) stops
 
-  pub compared : (functions : AreFunctions words text) (o : outcome_type.Outcome) → Compares functions.first functions.second o → Leads words text before after o
-  compared functions outcome.Equivalent compares = equal_forms (record { functions = functions; arity = compares.0; forms = compares.1; never_differ = compares.2 })
-  compared functions outcome.Unknown compares = other_forms functions compares.0 compares.1
-  compared functions (outcome.Refused fault) compares = absurd compares
+  arity_refused : (functions : AreFunctions words text) (f : Fault) → RefusesArity functions.first functions.second f → LeadsTo f
+  arity_refused functions fault.Usage refuses = absurd refuses
+  arity_refused functions (fault.Read named) refuses = absurd refuses
+  arity_refused functions (fault.TooLong named) refuses = absurd refuses
+  arity_refused functions (fault.Token named inner) refuses = absurd refuses
+  arity_refused functions (fault.Reader named inner) refuses = absurd refuses
+  arity_refused functions (fault.Check named inner) refuses = absurd refuses
+  arity_refused functions (fault.Different arity) refuses =
+      subst (λ (told : Arity). Leads words text before after (outcome.Refused (fault.Different told))) (sym refuses.0) (other_arity functions refuses.1)
 
-  pub compare_stop : (functions : AreFunctions words text) (why : Stop) → StopsComparing functions.first functions.second why → StopLeads words text before after why
-  compare_stop functions stop.Memory stops = tt
-  compare_stop functions (stop.Refused fault.Usage) stops = absurd stops
-  compare_stop functions (stop.Refused (fault.Read named)) stops = absurd stops
-  compare_stop functions (stop.Refused (fault.TooLong named)) stops = absurd stops
-  compare_stop functions (stop.Refused (fault.Token named inner)) stops = absurd stops
-  compare_stop functions (stop.Refused (fault.Reader named inner)) stops = absurd stops
-  compare_stop functions (stop.Refused (fault.Check named inner)) stops = absurd stops
-  compare_stop functions (stop.Refused (fault.Different arity)) stops =
-      subst (λ (told : Arity). Leads words text before after (outcome.Refused (fault.Different told))) (sym stops.0) (other_arity functions stops.1)
+  pub arity_stop : (functions : AreFunctions words text) (why : Stop) → StopsBy (RefusesArity functions.first functions.second) why → StopsBy LeadsTo why
+  arity_stop functions why stops = StopsBy-weaker (RefusesArity functions.first functions.second) LeadsTo why (arity_refused functions) stops

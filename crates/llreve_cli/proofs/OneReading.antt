@@ -21,17 +21,17 @@ use Rattle.llreve_cli.specs.Reads.{Parses, Reads, IsReadFault, IsUnread, IsUnche
 
 -- ---- one tree
 
-tokens_once : (text : List ℕ) (first second : List Token) → AreTokens text first → AreTokens text second → first ≡ second
+pub tokens_once : (text : List ℕ) (first second : List Token) → AreTokens text first → AreTokens text second → first ≡ second
 tokens_once text first second one other = (answers-one text first second None None one other).0
 
-parsed_once : (text : List ℕ) (first second : List RawFunction) → Parses text first → Parses text second → first ≡ second
+pub parsed_once : (text : List ℕ) (first second : List RawFunction) → Parses text first → Parses text second → first ≡ second
 parsed_once text first second one other =
     let same = tokens_once text one.tokens other.tokens one.are other.are in
     unit-one other.tokens first second (subst (λ (tokens : List Token). SpellsUnit tokens first) same one.spells) other.spells
 
 -- ---- a function that is checked has no fault
 
-one_function : (unit : List RawFunction) (f g : RawFunction) → HoldsOne unit f → HoldsOne unit g → f ≡ g
+pub one_function : (unit : List RawFunction) (f g : RawFunction) → HoldsOne unit f → HoldsOne unit g → f ≡ g
 one_function unit f g first second = let same : f ∷ [] ≡ g ∷ [] = sym first ∙ second in cc
 
 no_fault : (unit : List RawFunction) (made : Function) (fault : CheckFault) → Checks unit made
@@ -58,7 +58,7 @@ no_check_fault unit made check.Memory checks want reason = want refl
 
 -- ---- a text that is read is not refused
 
-not_unread : (text : List ℕ) (unit : List RawFunction) (fault : ReadFault) → Parses text unit → IsUnread text fault → ⊥
+pub not_unread : (text : List ℕ) (unit : List RawFunction) (fault : ReadFault) → Parses text unit → IsUnread text fault → ⊥
 not_unread text unit fault parses unread =
     let same = tokens_once text unread.tokens parses.tokens unread.are parses.are in
     on fault (subst (λ (tokens : List Token). IsReadFault tokens fault) same unread.reason)
@@ -68,7 +68,7 @@ not_unread text unit fault parses unread =
     on read.Grammar reason = let deeper = reason.1 unit parses.spells in let shallow = parses.shallow in omega arith
     on read.Memory reason = reason
 
-not_refused : (text : List ℕ) (made : Function) (fault : TextFault) → Reads text made → IsRefusal text fault → ⊥
+pub not_refused : (text : List ℕ) (made : Function) (fault : TextFault) → Reads text made → IsRefusal text fault → ⊥
 not_refused text made (refusal.Token fault) reads first =
     let clash : Some fault ≡ None = (answers-one text first.0 reads.parses.tokens (Some fault) None first.1 reads.parses.are).1 in cc
 not_refused text made (refusal.Reader fault) reads unread = not_unread text reads.unit fault reads.parses unread

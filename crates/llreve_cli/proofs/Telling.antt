@@ -1,65 +1,161 @@
--- What the status 0 tells.
-use Rattle.std.proofs.Common.{◌≡◌, ℕ, List, Option, refl, arith}
-use Rattle.std.specs.Prelude.{codes}
+-- What the statuses tell.
+use Rattle.std.proofs.Common.{◌≡◌, ◌≢◌, ℕ, ◌<◌, ◌≤◌, suc, ◌∷◌, [], List, Option, Some, None, ℤ, refl, sym, subst, arith}
 use Rattle.std.specs.Io.KnownBytes.{Appends}
-use Rattle.llreve_cli.specs.declared.fault.Fault.{Fault}
-use Rattle.llreve_cli.specs.declared.fault.Fault.TheVariants as fault
+use Rattle.std.specs.List.{All}
+use Rattle.std.proofs.lemmas.List.Elements.{All-cons}
+use Rattle.c_ast.specs.declared.place.Side.{Side}
+use Rattle.c_ast.specs.declared.place.Side.TheVariants as side
+use Rattle.c_ast.specs.Comparison.{Comparison}
+use Rattle.graph_run.specs.declared.skip.Skip.{Skip}
+use Rattle.graph_run.specs.declared.skip.Skip.TheVariants as skip
+use Rattle.trace_pair.specs.declared.skipped.Skipped.{Skipped}
+use Rattle.trace_pair.specs.Pairs.{IsSkippedOn, input_at}
+use Rattle.trace_pair.proofs.Answering.{pair_has_traces}
+use Rattle.report.specs.declared.early.Early.{Early}
+use Rattle.report.specs.declared.early.Early.TheVariants as early
+use Rattle.report.specs.declared.fault.Fault.{Fault}
+use Rattle.report.specs.declared.fault.Fault.TheVariants as fault
+use Rattle.report.specs.Samples.{IsKeptSample}
+use Rattle.report.specs.Early.{IsKeptEarly, early_text}
+use Rattle.report.specs.Faults.{IsKept}
 use Rattle.llreve_cli.specs.declared.outcome.Outcome.{Outcome}
 use Rattle.llreve_cli.specs.declared.outcome.Outcome.TheVariants as outcome
-use Rattle.llreve_cli.specs.Texts.{fault_status, IsKeptOutcome}
-use Rattle.llreve_cli.proofs.Reading.{first_fault-no_want, unread-no_want}
-use Rattle.llreve_cli.specs.Leads.{AreEquivalent, Leads, no_command, first_unread, first_long, second_unread, second_long, first_faulty, first_unparsed, first_unchecked, second_faulty, second_unparsed, second_unchecked, other_arity, other_forms, equal_forms}
+use Rattle.llreve_cli.specs.Samples.{IsAlike, AreAlike, IsDifference}
+use Rattle.llreve_cli.specs.Compare.{Compares}
+use Rattle.llreve_cli.specs.Leads.{AreComparable, subject_of, RefusesRead, RefusesText, Leads, no_command, first_unread, second_unread, first_refused, second_refused, other_arity, compared}
+use Rattle.llreve_cli.specs.Told.{fault_status, early_status, status_of, IsKeptOutcome}
 use Rattle.llreve_cli.specs.Tells.{Tells}
+use Rattle.llreve_cli.specs.Answers.{AreEquivalent, AreDifferent, AreUnknown}
+use Rattle.llreve_cli.proofs.Reading.{first_fault-no_want, unread-no_want}
 
--- A fault has a status of its own.
-refused-status : (f : Fault) → 0 ≡ fault_status f → ⊥
-refused-status fault.Usage e = omega arith
-refused-status (fault.Read name) e = omega arith
-refused-status (fault.TooLong name) e = omega arith
-refused-status (fault.Token name inner) e = omega arith
-refused-status (fault.Reader name inner) e = omega arith
-refused-status (fault.Check name inner) e = omega arith
-refused-status (fault.Different arity) e = omega arith
+-- ---- nothing that is told is want of memory
 
-leads-Equivalent : (words : List (List ℕ)) (text : List ℕ → Option (List ℕ)) (before after : List ℕ → ℕ) (o : Outcome) → Leads words text before after o → o ≡ outcome.Equivalent → AreEquivalent words text
-leads-Equivalent words text before after o (no_command _) e = absurd cc
-leads-Equivalent words text before after o (first_unread _ _ _ _) e = absurd cc
-leads-Equivalent words text before after o (first_long _ _ _ _) e = absurd cc
-leads-Equivalent words text before after o (second_unread _ _ _ _ _ _) e = absurd cc
-leads-Equivalent words text before after o (second_long _ _ _ _ _ _) e = absurd cc
-leads-Equivalent words text before after o (first_faulty _ _ _) e = absurd cc
-leads-Equivalent words text before after o (first_unparsed _ _ _) e = absurd cc
-leads-Equivalent words text before after o (first_unchecked _ _ _) e = absurd cc
-leads-Equivalent words text before after o (second_faulty _ _ _ _ _) e = absurd cc
-leads-Equivalent words text before after o (second_unparsed _ _ _ _ _) e = absurd cc
-leads-Equivalent words text before after o (second_unchecked _ _ _ _ _) e = absurd cc
-leads-Equivalent words text before after o (other_arity _ _) e = absurd cc
-leads-Equivalent words text before after o (other_forms _ _ _) e = absurd cc
-leads-Equivalent words text before after o (equal_forms are) e = are
+skipped_kept : (subject : Comparison) (input : List ℤ) (on : Side) (why : Skip) → IsSkippedOn subject input on why → why ≢ skip.Memory
+skipped_kept subject input side.A skip.NotEnded is same = cc
+skipped_kept subject input side.A skip.Wide is same = cc
+skipped_kept subject input side.A skip.Memory is same = is
+skipped_kept subject input side.B skip.NotEnded is same = cc
+skipped_kept subject input side.B skip.Wide is same = cc
+skipped_kept subject input side.B skip.Memory is same = is.1
 
--- Where an outcome is told with the status 0, the two functions are equivalent, and that is what was written.
-pub equivalent-told : (words : List (List ℕ)) (text : List ℕ → Option (List ℕ)) (before after : List ℕ → ℕ) (o : Outcome) (out out' err err' : Option (List ℕ)) (p p' q q' status : ℕ)
-    → Leads words text before after o → Tells o out out' err err' p p' q q' status → status ≡ 0 → AreEquivalent words text × Appends out out' (codes "equivalent\n")
-equivalent-told words text before after outcome.Equivalent out out' err err' p p' q q' status leads tells zero =
-    (leads-Equivalent words text before after outcome.Equivalent leads refl, (tells.whole (λ e. omega arith) (λ e. omega arith)).1)
-equivalent-told words text before after outcome.Unknown out out' err err' p p' q q' status leads tells zero =
-    absurd (let whole = tells.whole (λ e. omega arith) (λ e. omega arith) in omega (arith, whole.0))
-equivalent-told words text before after (outcome.Refused f) out out' err err' p p' q q' status leads tells zero =
-    absurd (refused-status f (let whole = tells.whole (λ e. omega arith) (λ e. omega arith) in omega (arith, whole.0)))
+sample_kept : (subject : Comparison) (index : ℕ) (sample : Option Skipped) → IsAlike subject index sample → IsKeptSample sample
+sample_kept subject index None alike = tt
+sample_kept subject index (Some skipped) alike = skipped_kept subject (input_at subject index) skipped.side skipped.why alike
+
+samples_kept : (subject : Comparison) (index : ℕ) (samples : List (Option Skipped)) → AreAlike subject index samples → All IsKeptSample samples
+samples_kept subject index [] alike = λ k d below. absurd (omega arith)
+samples_kept subject index (sample ∷ samples) alike =
+    All-cons IsKeptSample sample samples (sample_kept subject index sample alike.0) (samples_kept subject (suc index) samples alike.1)
+
+early_kept : (subject : Comparison) (e : Early) → Compares subject e → IsKeptEarly e
+early_kept subject early.Equivalent compares = tt
+early_kept subject (early.Different index input first second) compares = tt
+early_kept subject (early.Unknown samples) compares = samples_kept subject 0 samples compares.alike.alike
+
+unread_kept : (text : List ℕ → Option (List ℕ)) (before after : List ℕ → ℕ) (name : List ℕ) (f : Fault) → RefusesRead text before after name f → IsKept f
+unread_kept text before after name fault.Usage refuses = tt
+unread_kept text before after name (fault.Read named) refuses = tt
+unread_kept text before after name (fault.TooLong named) refuses = tt
+unread_kept text before after name (fault.Token named inner) refuses = absurd refuses
+unread_kept text before after name (fault.Reader named inner) refuses = absurd refuses
+unread_kept text before after name (fault.Check named inner) refuses = absurd refuses
+unread_kept text before after name (fault.Different arity) refuses = tt
+
+refused_kept : (name text : List ℕ) (f : Fault) → RefusesText name text f → IsKept f
+refused_kept name text fault.Usage refuses = tt
+refused_kept name text (fault.Read named) refuses = tt
+refused_kept name text (fault.TooLong named) refuses = tt
+refused_kept name text (fault.Token named inner) refuses = first_fault-no_want text inner refuses.1
+refused_kept name text (fault.Reader named inner) refuses = unread-no_want text inner refuses.1
+refused_kept name text (fault.Check named inner) refuses = refuses.1.no_want
+refused_kept name text (fault.Different arity) refuses = tt
 
 -- What the words and the files lead to holds no want of memory.
 pub leads_kept : (words : List (List ℕ)) (text : List ℕ → Option (List ℕ)) (before after : List ℕ → ℕ) (o : Outcome) → Leads words text before after o → IsKeptOutcome o
 leads_kept words text before after o (no_command _) = tt
-leads_kept words text before after o (first_unread _ _ _ _) = tt
-leads_kept words text before after o (first_long _ _ _ _) = tt
-leads_kept words text before after o (second_unread _ _ _ _ _ _) = tt
-leads_kept words text before after o (second_long _ _ _ _ _ _) = tt
-leads_kept words text before after o (first_faulty files fault first) = first_fault-no_want files.first_text fault first
-leads_kept words text before after o (first_unparsed files fault unread) = unread-no_want files.first_text fault unread
-leads_kept words text before after o (first_unchecked files fault unchecked) = unchecked.no_want
-leads_kept words text before after o (second_faulty files read fault reads first) = first_fault-no_want files.second_text fault first
-leads_kept words text before after o (second_unparsed files read fault reads unread) = unread-no_want files.second_text fault unread
-leads_kept words text before after o (second_unchecked files read fault reads unchecked) = unchecked.no_want
+leads_kept words text before after o (first_unread command f commands refuses) = unread_kept text before after command.first f refuses
+leads_kept words text before after o (second_unread command bytes f commands read refuses) = unread_kept text before after command.second f refuses
+leads_kept words text before after o (first_refused files f refuses) = refused_kept files.command.first files.first_text f refuses
+leads_kept words text before after o (second_refused files first f reads refuses) = refused_kept files.command.second files.second_text f refuses
 leads_kept words text before after o (other_arity _ _) = tt
-leads_kept words text before after o (other_forms _ _ _) = tt
-leads_kept words text before after o (equal_forms _) = tt
+leads_kept words text before after o (compared comparable e compares) = early_kept (subject_of comparable) e compares
+
+-- ---- what a verdict says
+
+-- A fault has a status of its own.
+refused-status : (f : Fault) → 3 ≤ fault_status f
+refused-status fault.Usage = omega arith
+refused-status (fault.Read name) = omega arith
+refused-status (fault.TooLong name) = omega arith
+refused-status (fault.Token name inner) = omega arith
+refused-status (fault.Reader name inner) = omega arith
+refused-status (fault.Check name inner) = omega arith
+refused-status (fault.Different arity) = omega arith
+
+module _ (words : List (List ℕ)) (text : List ℕ → Option (List ℕ)) (before after : List ℕ → ℕ) where
+  -- a verdict of functions that can be compared
+  abbrev Verdict : Early → Type 0
+  Verdict e = (comparable : AreComparable words text) × Compares (subject_of comparable) e
+
+  leads-verdict : (o : Outcome) → Leads words text before after o → (e : Early) → o ≡ outcome.Verdict e → Verdict e
+  leads-verdict o (no_command _) e same = absurd cc
+  leads-verdict o (first_unread _ _ _ _) e same = absurd cc
+  leads-verdict o (second_unread _ _ _ _ _ _) e same = absurd cc
+  leads-verdict o (first_refused _ _ _) e same = absurd cc
+  leads-verdict o (second_refused _ _ _ _ _) e same = absurd cc
+  leads-verdict o (other_arity _ _) e same = absurd cc
+  leads-verdict o (compared comparable told compares) e same =
+      let equal : told ≡ e = cc in (comparable, subst (λ (told : Early). Compares (subject_of comparable) told) equal compares)
+
+  module _ (out out' err err' : Option (List ℕ)) (p p' q q' status : ℕ) where
+    -- the outcome that is told, where it is a verdict
+    abbrev ToldVerdict : ℕ → Type 0
+    ToldVerdict wanted = (e : Early) × (early_status e ≡ wanted) × Verdict e × Appends out out' (early_text e)
+
+    -- A status below 3 tells a verdict.
+    verdict-told : (o : Outcome) → Leads words text before after o → Tells o out out' err err' p p' q q' status → status < 3 → ToldVerdict status
+    verdict-told (outcome.Verdict e) leads tells low =
+        let whole = tells.whole (λ e. omega arith) (λ e. omega arith) in
+        (e, sym whole.0, leads-verdict (outcome.Verdict e) leads e refl, whole.1)
+    verdict-told (outcome.Refused f) leads tells low =
+        absurd (let whole = tells.whole (λ e. omega arith) (λ e. omega arith) in omega (arith, whole.0, refused-status f))
+
+    pub equivalent-told : (o : Outcome) → Leads words text before after o → Tells o out out' err err' p p' q q' status → status ≡ 0
+        → AreEquivalent words text × Appends out out' (early_text early.Equivalent)
+    equivalent-told o leads tells is = on (verdict-told o leads tells (omega arith))
+      where
+        on : ToldVerdict status → AreEquivalent words text × Appends out out' (early_text early.Equivalent)
+        on (early.Equivalent, same, verdict, told) = (record { comparable = verdict.0; value = verdict.1 }, told)
+        on (early.Different index input first second, same, verdict, told) = absurd (omega (arith, same, is))
+        on (early.Unknown samples, same, verdict, told) = absurd (omega (arith, same, is))
+
+    pub different-told : (o : Outcome) → Leads words text before after o → Tells o out out' err err' p p' q q' status → status ≡ 1
+        → (d : AreDifferent words text) × Appends out out' (early_text (early.Different d.index d.input d.first d.second))
+    different-told o leads tells is = on (verdict-told o leads tells (omega arith))
+      where
+        on : ToldVerdict status → (d : AreDifferent words text) × Appends out out' (early_text (early.Different d.index d.input d.first d.second))
+        on (early.Equivalent, same, verdict, told) = absurd (omega (arith, same, is))
+        on (early.Different index input first second, same, verdict, told) =
+            let comparable = verdict.0 in
+            let difference : IsDifference (subject_of comparable) index input first second = verdict.1 in
+            let traces = pair_has_traces (subject_of comparable) index difference.pair difference.apart.is in
+            (record {
+              comparable = comparable;
+              index = index;
+              input = input;
+              first = first;
+              second = second;
+              difference = difference;
+              first_returns = rw (difference.of_input, difference.of_first) traces.first.returns;
+              second_returns = rw (difference.of_input, difference.of_second) traces.second.returns;
+            }, told)
+        on (early.Unknown samples, same, verdict, told) = absurd (omega (arith, same, is))
+
+    pub unknown-told : (o : Outcome) → Leads words text before after o → Tells o out out' err err' p p' q q' status → status ≡ 2
+        → (u : AreUnknown words text) × Appends out out' (early_text (early.Unknown u.samples))
+    unknown-told o leads tells is = on (verdict-told o leads tells (omega arith))
+      where
+        on : ToldVerdict status → (u : AreUnknown words text) × Appends out out' (early_text (early.Unknown u.samples))
+        on (early.Equivalent, same, verdict, told) = absurd (omega (arith, same, is))
+        on (early.Different index input first second, same, verdict, told) = absurd (omega (arith, same, is))
+        on (early.Unknown samples, same, verdict, told) = (record { comparable = verdict.0; samples = samples; unknown = verdict.1 }, told)

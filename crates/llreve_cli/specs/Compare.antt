@@ -1,15 +1,18 @@
--- What it means that two functions of one `return` each are equivalent.
-use Rattle.std.specs.Prelude.{◌≡◌, ℕ, ◌↔◌, ℤ, Bool, IsTrue, List, length, Some}
+-- What the linear forms and the samples tell of two functions.
+use Rattle.std.specs.Prelude.{◌≡◌, ℕ, ◌↔◌, ℤ, Bool, IsTrue, List, Option, Some}
 use Rattle.c_ast.specs.declared.expr.Expr.{Expr}
 use Rattle.c_ast.specs.Tree.{Expression}
 use Rattle.c_ast.specs.View.{expression_of}
 use Rattle.c_ast.specs.Value.{eval}
 use Rattle.c_ast.specs.Function.{Function, ReturnsOne, program_of}
 use Rattle.c_ast.specs.Returns.{NeverDiffer}
+use Rattle.c_ast.specs.Comparison.{Comparison}
 use Rattle.lin_terms.specs.declared.form.Form.{Form}
-use Rattle.llreve_cli.specs.declared.outcome.Outcome.{Outcome}
-use Rattle.llreve_cli.specs.declared.outcome.Outcome.TheVariants.{Equivalent, Unknown, Refused}
+use Rattle.trace_pair.specs.declared.skipped.Skipped.{Skipped}
+use Rattle.report.specs.declared.early.Early.{Early}
+use Rattle.report.specs.declared.early.Early.TheVariants.{Equivalent, Different, Unknown}
 use Rattle.llreve_cli.specs.Form.{form_of}
+use Rattle.llreve_cli.specs.Samples.{IsDifference, AreAllAlike}
 
 -- Both expressions have a form over `count` variables, and it is one form.
 abbrev pub HaveOneForm : ℕ → Expression → Expression → Type 0
@@ -28,8 +31,18 @@ pub record AreSame (same : Bool) (count : ℕ) (first second : Expression) : Typ
   pub one_form : IsTrue same ↔ HaveOneForm count first second
   pub one_value : IsTrue same → (values : List ℤ) → eval first values ≡ eval second values
 
--- What comparing two functions tells: one number of parameters, and whether the forms are equal.
-abbrev pub Compares : Function → Function → Outcome → Type 0
-Compares f g Equivalent = (f.params ≡ g.params) × HaveEqualForms f g × NeverDiffer (program_of f) (program_of g)
-Compares f g Unknown = (f.params ≡ g.params) × (¬ HaveEqualForms f g)
-Compares f g (Refused fault) = ⊥
+-- Both functions are one `return`, of expressions with one form, so no input makes them return differently.
+pub record HaveOneValue (f g : Function) : Type 0 where
+  pub forms : HaveEqualForms f g
+  pub never_differ : NeverDiffer (program_of f) (program_of g)
+
+-- No form says that the functions are equivalent, and no sample tells them apart.
+pub record IsUnknown (subject : Comparison) (samples : List (Option Skipped)) : Type 0 where
+  pub other_forms : ¬ HaveEqualForms subject.first subject.second
+  pub alike : AreAllAlike subject samples
+
+-- What comparing two functions tells.
+abbrev pub Compares : Comparison → Early → Type 0
+Compares subject Equivalent = HaveOneValue subject.first subject.second
+Compares subject (Different index input first second) = IsDifference subject index input first second
+Compares subject (Unknown samples) = IsUnknown subject samples

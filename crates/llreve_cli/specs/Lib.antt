@@ -1,10 +1,12 @@
-pub mod Words
-pub mod Texts
 pub mod Form
 pub mod NoForm
+pub mod Samples
 pub mod Compare
 pub mod TextFaults
 pub mod Reads
 pub mod Leads
+pub mod Judged
 pub mod Stops
+pub mod Told
 pub mod Tells
+pub mod Answers

@@ -4,7 +4,7 @@ use Rattle.std.specs.Io.KnownBytes.{Appends, Keeps}
 use Rattle.re_base.specs.Causes.{Rose}
 use Rattle.re_base.specs.Told.{AppendsPrefix}
 use Rattle.llreve_cli.specs.declared.outcome.Outcome.{Outcome}
-use Rattle.llreve_cli.specs.Texts.{status_of, out_text, err_text}
+use Rattle.llreve_cli.specs.Told.{status_of, out_text, err_text}
 
 -- The output held `o` and then `o'`, and the errors' output `e` and then `e'`; their counts of faults were `p` and then
 -- `p'`, and `q` and then `q'`.

@@ -1,9 +1,13 @@
 //! The whole command on one thread.
 ghost use Rattle.std.specs.Prelude.{◌≡◌, ◌≢◌, map, string_bytes, codes, IfOk};
 ghost use Rattle.std.specs.Io.KnownBytes.{Appends, Keeps};
+ghost use Rattle.report.specs.Early.{early_text};
+ghost use Rattle.report.specs.declared.early.Early.TheVariants as early;
 ghost use Rattle.llreve_cli.specs.declared.outcome.Outcome.{Outcome};
-ghost use Rattle.llreve_cli.specs.Leads.{Leads, AreEquivalent};
+ghost use Rattle.llreve_cli.specs.Leads.{Leads};
+ghost use Rattle.llreve_cli.specs.Told.{status_of, out_text, err_text};
 ghost use Rattle.llreve_cli.specs.Tells.{Tells};
+ghost use Rattle.llreve_cli.specs.Answers.{AreEquivalent, AreDifferent, AreUnknown, AreTold, SampleDiffers, HasOneOutcome};
 
 use crate::judge::judge;
 use crate::outcome::{NO_MEMORY, Outcome};
@@ -17,15 +21,15 @@ fn settle<F: Files>(alloc: Global, words: &[String], files: &mut F) -> Result<Ou
     ensures { IfOk result (Leads (map string_bytes words.now) (F.text files.old) (F.faults files.old) (F.faults files.new)) }
 {
     match judge(alloc, words, files) {
-        Ok(outcome) => Ok(outcome),
+        Ok(early) => Ok(Outcome::Verdict(early)),
         Err(Stop::Refused(fault)) => Ok(Outcome::Refused(fault)),
         Err(Stop::Memory) => Err(AllocError),
     }
 }
 
 /// Compares the functions of the two files that `words` name, writes what is known of them, and answers the status:
-/// 0 equivalent, 2 unknown, 3 refused words or input, 4 a file could not be read, 5 a write failed, 6 want of memory.
-/// `words` leave out the program's name.
+/// 0 equivalent, 1 different, 2 unknown, 3 refused words or input, 4 a file could not be read, 5 a write failed, 6 want
+/// of memory. `words` leave out the program's name.
 pub fn llreve_alone<F: Files, O: Sink, E: Sink>(
     alloc: Global,
     words: &[String],
@@ -39,15 +43,40 @@ pub fn llreve_alone<F: Files, O: Sink, E: Sink>(
         × Tells outcome (O.written out.old) (O.written out.new) (E.written err.old) (E.written err.new)
         (O.faults out.old) (O.faults out.new) (E.faults err.old) (E.faults err.new) result }
 
+    // Where both texts are told and no read failed, what the words and the texts lead to is what is told, unless a write
+    // failed or memory ran out.
+    ensures exact { AreTold (map string_bytes words.now) (F.text files.old) (F.faults files.old) (F.faults files.new)
+        → (outcome : Outcome) → Leads (map string_bytes words.now) (F.text files.old) (F.faults files.old) (F.faults files.new) outcome
+        → result ≢ 5 → result ≢ 6 → (result ≡ status_of outcome)
+        × Appends (O.written out.old) (O.written out.new) (out_text outcome)
+        × Appends (E.written err.old) (E.written err.new) (err_text outcome) }
+
     // Where it ran out, nothing is written.
     ensures memory { result ≡ 6 → Keeps (O.written out.old) (O.written out.new) × Keeps (E.written err.old) (E.written err.new) }
 
     // Status 0 means that no input makes the two functions return differently.
     ensures equivalent { result ≡ 0 → AreEquivalent (map string_bytes words.now) (F.text files.old)
-        × Appends (O.written out.old) (O.written out.new) (codes "equivalent\n") }
+        × Appends (O.written out.old) (O.written out.new) (early_text early.Equivalent) }
+
+    // Status 1 tells the first sample on whose input both return, and differently.
+    ensures different { result ≡ 1 → (d : AreDifferent (map string_bytes words.now) (F.text files.old))
+        × Appends (O.written out.old) (O.written out.new) (early_text (early.Different d.index d.input d.first d.second)) }
+
+    // It comes wherever some sample tells them apart, unless a write failed or memory ran out.
+    ensures apart { AreTold (map string_bytes words.now) (F.text files.old) (F.faults files.old) (F.faults files.new)
+        → SampleDiffers (map string_bytes words.now) (F.text files.old) → result ≢ 5 → result ≢ 6 → result ≡ 1 }
+
+    // Status 2 tells why each sample decides nothing.
+    ensures unknown { result ≡ 2 → (u : AreUnknown (map string_bytes words.now) (F.text files.old))
+        × Appends (O.written out.old) (O.written out.new) (early_text (early.Unknown u.samples)) }
 {
     match settle(alloc, words, files) {
         Ok(outcome) => tell(alloc, &outcome, out, err),
         Err(_) => NO_MEMORY,
     }
 }
+
+/// A law: words and told texts lead to one outcome at most, where no read fails.
+pub fn one_outcome()
+    ensures { HasOneOutcome }
+{}

@@ -1,17 +1,15 @@
-//! Two functions of one `return` are compared by the linear forms of what they return.
-ghost use Rattle.std.specs.Prelude.{◌≡◌, ◌↔◌, IfOk, IfErr, IsTrue};
+//! Two functions are compared by the linear forms of what they return, and else by runs on samples.
+ghost use Rattle.std.specs.Prelude.{◌≡◌, ◌↔◌, IfOk, IsTrue};
 ghost use Rattle.c_ast.specs.Value.{VariablesBelow};
 ghost use Rattle.c_ast.specs.View.{expression_of};
 ghost use Rattle.c_ast.specs.Function.{program_of};
 ghost use Rattle.c_ast.specs.Returns.{NeverDiffer};
 ghost use Rattle.llreve_cli.specs.Compare.{HaveEqualForms, AreSame, Compares};
-ghost use Rattle.llreve_cli.specs.Stops.{StopsComparing};
 
-use crate::fault::Fault;
 use crate::form::{NoForm, form_of};
-use crate::outcome::Outcome;
-use crate::stop::Stop;
-use c_ast::{Arity, Expr, Func};
+use crate::samples::sample_all;
+use c_ast::{Expr, Func, Subject};
+use report::Early;
 use std::alloc::{AllocError, Global};
 
 // Whether both expressions over `count` variables have a form, and the forms are equal.
@@ -50,21 +48,13 @@ fn are_equivalent(alloc: Global, first: &Func, second: &Func) -> Result<bool, Al
     have_equal_forms(alloc, first.params() as usize, left, right)
 }
 
-/// What comparing the two functions tells. Different numbers of parameters are refused.
-pub fn compare(alloc: Global, first: &Func, second: &Func) -> Result<Outcome, Stop>
-    ensures outcome { IfOk result (Compares first.now second.now) }
-    ensures stopped { IfErr result (StopsComparing first.now second.now) }
+/// What comparing the two functions tells. Where their forms are equal no sample can tell them apart, so none is run.
+pub fn compare(alloc: Global, subject: &Subject) -> Result<Early, AllocError>
+    ensures { IfOk result (Compares subject.now) }
 {
-    let (m, n) = (first.params(), second.params());
-    if m != n {
-        return Err(Stop::Refused(Fault::Different(Arity {
-            first: m,
-            second: n,
-        })));
-    }
-    if are_equivalent(alloc, first, second)? {
-        Ok(Outcome::Equivalent)
+    if are_equivalent(alloc, subject.first(), subject.second())? {
+        Ok(Early::Equivalent)
     } else {
-        Ok(Outcome::Unknown)
+        sample_all(alloc, subject)
     }
 }

@@ -6,16 +6,15 @@
 
 mod alone;
 mod compare;
-mod fault;
 mod form;
 mod function;
 mod judge;
 mod outcome;
+mod samples;
 mod stop;
 mod tell;
 #[cfg(test)]
 mod tests;
-mod words;
 
 use alone::llreve_alone;
 use outcome::{NO_MEMORY, USAGE};

@@ -1,11 +1,14 @@
 //! What the program tells, and the status that it ends with.
 ghost use Rattle.std.specs.Prelude.{◌≡◌};
-ghost use Rattle.llreve_cli.specs.Texts.{status_of, fault_status};
+ghost use Rattle.llreve_cli.specs.Told.{early_status, fault_status};
 
-use crate::fault::Fault;
+use report::{Early, Fault};
 
 /// The status of two functions that no input tells apart.
 pub const EQUIVALENT: u8 = 0;
+
+/// The status of two functions that a sample tells apart.
+pub const DIFFERENT: u8 = 1;
 
 /// The status of two functions of which nothing is known.
 pub const UNKNOWN: u8 = 2;
@@ -25,10 +28,29 @@ pub const NO_MEMORY: u8 = 6;
 /// What the words and the files lead to.
 #[derive(Debug, Drop)]
 pub enum Outcome {
-    /// No input makes the two functions return differently.
-    Equivalent,
-    /// Nothing is known of the two functions.
-    Unknown,
+    /// What is known of the two functions.
+    Verdict(Early),
     /// There is no answer.
     Refused(Fault),
+}
+
+/// The status of a verdict.
+pub fn early_status(early: &Early) -> u8
+    ensures { result ≡ early_status early.now }
+{
+    match early {
+        Early::Equivalent => EQUIVALENT,
+        Early::Different { .. } => DIFFERENT,
+        Early::Unknown { .. } => UNKNOWN,
+    }
+}
+
+/// The status of a fault.
+pub fn fault_status(fault: &Fault) -> u8
+    ensures { result ≡ fault_status fault.now }
+{
+    match fault {
+        Fault::Read(_) => NOT_READ,
+        _ => USAGE,
+    }
 }

@@ -1,5 +1,5 @@
 //! Why there is no verdict.
-use crate::fault::Fault;
+use report::Fault;
 use std::alloc::AllocError;
 
 /// Why there is no verdict.

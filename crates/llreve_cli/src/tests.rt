@@ -96,6 +96,9 @@ impl<'a> Run<'a> {
     }
 }
 
+/// Two texts with equal results at all samples, which no form decides.
+const EQUAL: &str = "2|unknown\nequal 0-99\n|";
+
 #[test]
 fn texts_are_compared(rt: HostRuntime) -> Result<(), Fail> {
     let rows = [
@@ -126,31 +129,6 @@ fn texts_are_compared(rt: HostRuntime) -> Result<(), Fail> {
             "0|equivalent\n|",
         ),
         (
-            "int f(int a,int b){return a-b;}",
-            "int f(int a,int b){return b-a;}",
-            "2|unknown\n|",
-        ),
-        (
-            "int f(int a){return a;}",
-            "int f(int a){return a+1;}",
-            "2|unknown\n|",
-        ),
-        (
-            "int f(int a){return a*a;}",
-            "int f(int a){return a*a;}",
-            "2|unknown\n|",
-        ),
-        (
-            "int f(int a){return !a;}",
-            "int f(int a){return !a;}",
-            "2|unknown\n|",
-        ),
-        (
-            "int f(int a){return a?a:a;}",
-            "int f(int a){return a;}",
-            "2|unknown\n|",
-        ),
-        (
             "int f(int a){;return a;}",
             "int f(int a){return a;}",
             "0|equivalent\n|",
@@ -160,11 +138,69 @@ fn texts_are_compared(rt: HostRuntime) -> Result<(), Fail> {
             "int f(int a){return 1125899906842623;}",
             "0|equivalent\n|",
         ),
+        // The least sample that tells the functions apart is told.
         (
-            "int f(int a){return 1125899906842624;}",
-            "int f(int a){return 1125899906842624;}",
-            "2|unknown\n|",
+            "int f(int a){return a+1;}",
+            "int f(int a){return a-1;}",
+            "1|different\nsample 0\ninput 0\nA returns 1\nB returns -1\n|",
         ),
+        (
+            "int f(int a,int b){return a-b;}",
+            "int f(int a,int b){return b-a;}",
+            "1|different\nsample 1\ninput 1 0\nA returns 1\nB returns -1\n|",
+        ),
+        (
+            "int f(int a){int r=0; if(a>0) if(a>1) r=1; else r=2; return r;}",
+            "int f(int a){int r=0; if(a>0){if(a>1) r=1;} else r=2; return r;}",
+            "1|different\nsample 0\ninput 0\nA returns 0\nB returns 2\n|",
+        ),
+        (
+            "int f(void){return 1;}",
+            "int f(void){return 2;}",
+            "1|different\nsample 0\ninput\nA returns 1\nB returns 2\n|",
+        ),
+        // A difference that no sample meets.
+        (
+            "int f(int a){return a;}",
+            "int f(int a){if (a == 1000) return 0; return a;}",
+            EQUAL,
+        ),
+        (
+            "int f(int a){return a*a;}",
+            "int f(int a){return a*a;}",
+            EQUAL,
+        ),
+        (
+            "int f(int a){return a?a:a;}",
+            "int f(int a){return a;}",
+            EQUAL,
+        ),
+        (
+            "int f(int a){return 9223372036854775807;}",
+            "int f(int a){return 9223372036854775807;}",
+            EQUAL,
+        ),
+        (
+            "int f(void){int x = x + 1; return x;}",
+            "int f(void){return 1;}",
+            EQUAL,
+        ),
+        (
+            "int f(int n){int s=0; for(int i=0; __mark(7) & (i<n); i++){if(i==3) continue; s+=i;} return s;}",
+            "int f(int n){int s=0; int i=0; while(__mark(7) & (i<n)){if(i!=3) s=s+i; i=i+1;} return s;}",
+            EQUAL,
+        ),
+        (
+            "int f(int n){int i=0; do i++; while(i<n); return i;}",
+            "int f(int n){int i=1; while(i<n) i++; return i;}",
+            EQUAL,
+        ),
+        (
+            "int f(int a){int x=a; {int x=1; x=5;} return x;}",
+            "int f(int a){return a;}",
+            EQUAL,
+        ),
+        (USERS_FIRST, USERS_SECOND, EQUAL),
         (
             "int f(int a){return a;}",
             "int f(int a,int b){return a;}",
@@ -177,10 +213,74 @@ fn texts_are_compared(rt: HostRuntime) -> Result<(), Fail> {
             "int f(int a,int b){return c;}",
             "3||llreve: B.c:1: undeclared c\n",
         ),
-        (USERS_FIRST, USERS_SECOND, "2|unknown\n|"),
     ];
     for (first, second, want) in rows {
         let got = Run::on(first, second).told(rt.alloc(), &NAMES)?;
+        assert_eq!(rt; got.as_str(), want, "{first} and {second}");
+    }
+    Ok(())
+}
+
+#[test]
+fn samples_are_bounded(rt: HostRuntime) -> Result<(), Fail> {
+    let squares = "int f(int x){int i=0; while(__mark(3) & (i<60)){x=x*x; i=i+1;} return x;}";
+    let squared = "int f(int x){int i=0; while(__mark(3) & (i<60)){i=i+1; x=x*x;} return x;}";
+    let waiting = "int f(int x){while(__mark(3) & x); return 0;}";
+    let few = "int f(void){int i=0; while(__mark(1) & (i<63)) i=i+1; return i;}";
+    let many = "int f(void){int i=0; while(__mark(1) & (i<64)) i=i+1; return i;}";
+    let other = "int f(int x){if (x < -18) return 1; return 0;}";
+    let rows: [(&str, &str, &[&str], &str); 9] = [
+        (
+            squares,
+            squared,
+            &["--samples", "5"],
+            "2|unknown\nequal 0-1 3\nwide A 2 4\n|",
+        ),
+        (
+            "int f(int x){return 1;}",
+            squared,
+            &["--samples=5"],
+            "1|different\nsample 0\ninput 0\nA returns 1\nB returns 0\n|",
+        ),
+        // No sample that is skipped on a side can tell the functions apart.
+        (
+            "int f(int x){return 0*x*x;}",
+            waiting,
+            &["--samples=5"],
+            "2|unknown\nequal 0\nnot-ended B 1-4\n|",
+        ),
+        (
+            squares,
+            waiting,
+            &["--samples=5"],
+            "2|unknown\nequal 0\nwide A 2 4\nnot-ended B 1 3\n|",
+        ),
+        (few, few, &["--samples=1"], "2|unknown\nequal 0\n|"),
+        (many, many, &["--samples=1"], "2|unknown\nnot-ended A 0\n|"),
+        (
+            many,
+            many,
+            &["--samples=1", "--marks=65"],
+            "2|unknown\nequal 0\n|",
+        ),
+        (
+            "int f(int x){return 0*x*x;}",
+            other,
+            &["--samples=9"],
+            "2|unknown\nequal 0-8\n|",
+        ),
+        (
+            DOUBLE,
+            TWICE,
+            &["--rows=1", "--workers=64", "--seed=7"],
+            "0|equivalent\n|",
+        ),
+    ];
+    for (first, second, options, want) in rows {
+        let mut words = Vec::new(rt.alloc());
+        words.extend_from_slice(&NAMES)?;
+        words.extend_from_slice(options)?;
+        let got = Run::on(first, second).told(rt.alloc(), &words)?;
         assert_eq!(rt; got.as_str(), want, "{first} and {second}");
     }
     Ok(())
@@ -292,11 +392,14 @@ fn repeated(
     Ok(text)
 }
 
+/// What a function that returns its parameter is told from the constant 2 by.
+const DIFFERS: &str = "1|different\nsample 0\ninput 0\nA returns 0\nB returns 2\n|";
+
 #[test]
 fn texts_nest_as_deep_as_may_be(rt: HostRuntime) -> Result<(), Fail> {
     let alloc = rt.alloc();
     let rows = [
-        ("int f(int a){return ", "(", 199, "a", ")", "2|unknown\n|"),
+        ("int f(int a){return ", "(", 199, "a", ")", DIFFERS),
         (
             "int f(int a){return ",
             "(",
@@ -311,7 +414,7 @@ fn texts_nest_as_deep_as_may_be(rt: HostRuntime) -> Result<(), Fail> {
             398,
             "; return a;",
             "",
-            "2|unknown\n|",
+            DIFFERS,
         ),
         (
             "int f(int a){",
@@ -346,7 +449,7 @@ fn with_variables(alloc: Global, count: usize) -> Result<String, AllocError> {
 #[test]
 fn variables_are_counted(rt: HostRuntime) -> Result<(), Fail> {
     let alloc = rt.alloc();
-    for (count, want) in [(63, "2|unknown\n|"), (64, "3||llreve: A.c: 65 variables\n")] {
+    for (count, want) in [(63, "1|different\nsample 1\ninput 1\nA returns 1\nB returns 2\n|"), (64, "3||llreve: A.c: 65 variables\n")] {
         let text = with_variables(alloc, count)?;
         let got = Run::on(text.as_str(), TWICE).told(alloc, &NAMES)?;
         assert_eq!(rt; got.as_str(), want, "{count} variables");
@@ -357,9 +460,9 @@ fn variables_are_counted(rt: HostRuntime) -> Result<(), Fail> {
 #[test]
 fn words_are_judged_first(rt: HostRuntime) -> Result<(), Fail> {
     let usage = "3||llreve: usage: llreve [options] FIRST SECOND\n";
-    let rows: [(&[&str], &str); 16] = [
+    let rows: [(&[&str], &str); 12] = [
         (&["A.c", "--alone", "B.c"], "0|equivalent\n|"),
-        (&["B.c", "A.c", "--alone"], "0|equivalent\n|"),
+        (&["--seed", "+007", "B.c", "--alone", "--", "A.c"], "0|equivalent\n|"),
         (&["--alone", "A.c", "A.c"], "0|equivalent\n|"),
         (
             &["--alone", "A.c", "make"],
@@ -369,17 +472,13 @@ fn words_are_judged_first(rt: HostRuntime) -> Result<(), Fail> {
             &["--alone", "C.c", "B.c"],
             "4||llreve: C.c: cannot be read\n",
         ),
-        (&["--alone", "", "B.c"], "4||llreve: : cannot be read\n"),
-        (&[], usage),
-        (&["--alone"], usage),
+        (&["--alone", "", "-"], "4||llreve: : cannot be read\n"),
         (&["A.c", "B.c"], usage),
         (&["--alone", "A.c"], usage),
-        (&["--alone", "A.c", "B.c", "B.c"], usage),
-        (&["--alone", "--alone", "A.c"], usage),
         (&["--alone", "make", "1"], usage),
-        (&["--alone", "-", "B.c"], usage),
-        (&["--alone", "A.c", "--history"], usage),
-        (&["--alon", "A.c", "B.c"], usage),
+        (&["--alone", "A.c", "B.c", "--history"], usage),
+        (&["--alone", "A.c", "B.c", "--samples", "0"], usage),
+        (&["--alone", "C.c", "B.c", "--samples=5", "--samples=5"], usage),
     ];
     for (words, want) in rows {
         let got = Run::on(DOUBLE, TWICE).told(rt.alloc(), words)?;
@@ -389,42 +488,61 @@ fn words_are_judged_first(rt: HostRuntime) -> Result<(), Fail> {
 }
 
 #[test]
-fn reads_and_writes_fail(rt: HostRuntime) -> Result<(), Fail> {
-    let alloc = rt.alloc();
-    for (reads, want) in [
+fn reads_fail(rt: HostRuntime) -> Result<(), Fail> {
+    for (read, want) in [
         (0, "4||llreve: A.c: cannot be read\n"),
         (1, "4||llreve: B.c: cannot be read\n"),
         (2, "0|equivalent\n|"),
     ] {
-        let failing = [reads];
+        let failing = [read];
         let run = Run {
             reads: &failing,
             ..Run::on(DOUBLE, TWICE)
         };
-        assert_eq!(rt; run.told(alloc, &NAMES)?.as_str(), want, "read {reads}");
+        assert_eq!(rt; run.told(rt.alloc(), &NAMES)?.as_str(), want, "read {read}");
     }
-    // A sink that takes a byte a call holds as many bytes as calls went well.
-    for (put, first, want) in [
-        (0, DOUBLE, "5||"),
-        (4, DOUBLE, "5|equi|"),
-        (10, DOUBLE, "5|equivalent|"),
-        (11, DOUBLE, "0|equivalent\n|"),
-        (0, "int f(int a){return a*a;}", "5||"),
-        (7, "int f(int a){return a*a;}", "5|unknown|"),
-        (0, "", "5||"),
-        (8, "", "5||llreve: "),
-    ] {
-        let failing = [put];
-        let run = Run {
-            puts: &failing,
-            most: 1,
-            ..Run::on(first, TWICE)
-        };
-        assert_eq!(rt;
-            run.told(alloc, &NAMES)?.as_str(),
-            want,
-            "put {put} of {first}"
-        );
+    Ok(())
+}
+
+/// What a run leaves where each call of a sink takes one byte, and the call with this number fails.
+fn cut(alloc: Global, first: &str, call: u32) -> Result<String, AllocError> {
+    let failing = [call];
+    let run = Run {
+        puts: &failing,
+        most: 1,
+        ..Run::on(first, TWICE)
+    };
+    run.told(alloc, &NAMES)
+}
+
+#[test]
+fn a_failed_write_leaves_a_front(rt: HostRuntime) -> Result<(), Fail> {
+    let alloc = rt.alloc();
+    let rows = [
+        (DOUBLE, "equivalent\n", ""),
+        (
+            "int f(int a){return 1;}",
+            "different\nsample 0\ninput 0\nA returns 1\nB returns 0\n",
+            "",
+        ),
+        ("int f(int a){return a?a+a:a;}", "unknown\nequal 0-99\n", ""),
+        ("", "", "llreve: A.c: no function\n"),
+    ];
+    for (text, out, err) in rows {
+        let (mut out_front, mut err_front) = (String::new(alloc), String::new(alloc));
+        let mut call = 0;
+        for letter in out.chars() {
+            let want = format!(in alloc; "5|{}|", out_front.as_str())?;
+            assert_eq!(rt; cut(alloc, text, call)?.as_str(), want.as_str(), "{text} {call}");
+            out_front.push(letter)?;
+            call = call.saturating_add(1);
+        }
+        for letter in err.chars() {
+            let want = format!(in alloc; "5||{}", err_front.as_str())?;
+            assert_eq!(rt; cut(alloc, text, call)?.as_str(), want.as_str(), "{text} {call}");
+            err_front.push(letter)?;
+            call = call.saturating_add(1);
+        }
     }
     Ok(())
 }

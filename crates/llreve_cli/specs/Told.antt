@@ -1,0 +1,38 @@
+-- The texts that are written, and the statuses that go with them.
+use Rattle.std.specs.Prelude.{ℕ, List, []}
+use Rattle.report.specs.declared.early.Early.{Early}
+use Rattle.report.specs.declared.early.Early.TheVariants.{Equivalent, Different, Unknown}
+use Rattle.report.specs.declared.fault.Fault.{Fault}
+use Rattle.report.specs.declared.fault.Fault.TheVariants.{Read}
+use Rattle.report.specs.Early.{IsKeptEarly, early_text}
+use Rattle.report.specs.Faults.{IsKept, fault_text}
+use Rattle.llreve_cli.specs.declared.outcome.Outcome.{Outcome}
+use Rattle.llreve_cli.specs.declared.outcome.Outcome.TheVariants.{Verdict, Refused}
+
+abbrev pub early_status : Early → ℕ
+early_status Equivalent = 0
+early_status (Different index input first second) = 1
+early_status (Unknown samples) = 2
+
+abbrev pub fault_status : Fault → ℕ
+fault_status (Read name) = 4
+fault_status _ = 3
+
+abbrev pub status_of : Outcome → ℕ
+status_of (Verdict early) = early_status early
+status_of (Refused fault) = fault_status fault
+
+-- what is written on the output
+abbrev pub out_text : Outcome → List ℕ
+out_text (Verdict early) = early_text early
+out_text (Refused fault) = []
+
+-- what is written on the errors' output
+abbrev pub err_text : Outcome → List ℕ
+err_text (Verdict early) = []
+err_text (Refused fault) = fault_text fault
+
+-- Nothing that the outcome holds is want of memory.
+abbrev pub IsKeptOutcome : Outcome → Type 0
+IsKeptOutcome (Verdict early) = IsKeptEarly early
+IsKeptOutcome (Refused fault) = IsKept fault

@@ -1,0 +1,8 @@
+/* The sum of 1 to n. */
+int sum(int n)
+{
+    int s = 0;
+    for (int i = 0; i < n; i++)
+        s += i;
+    return s;
+}
