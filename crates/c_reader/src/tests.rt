@@ -1,4 +1,5 @@
 //! Texts, and what C's grammar makes of them (ISO C11, 6.5 to 6.9).
+mod depths;
 mod expressions;
 mod units;
 

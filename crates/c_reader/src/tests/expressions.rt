@@ -180,7 +180,7 @@ fn expressions_are_read_as_in_c(rt: HostRuntime) -> Result<(), Fail> {
 }
 
 // The parts `front` and `back` this many times around a text.
-fn around(
+pub fn around(
     alloc: Global,
     front: &str,
     times: u32,

@@ -3,11 +3,9 @@ use Rattle.std.proofs.Common.{◌≡◌, ◌∙◌, ap, List, [], drop}
 use Rattle.std.specs.Prelude.{option_map}
 use Rattle.std.proofs.lemmas.List.{drop_all}
 use Rattle.c_ast.specs.declared.raw.RawStmt.{RawStmt}
-use Rattle.c_ast.specs.declared.stmt.Stmt.{If, Break, Continue, Return, Mark, Block}
 use Rattle.c_ast.specs.RawTree as raw
 use Rattle.c_ast.specs.RawTree.{RawStatements}
 use Rattle.c_ast.specs.RawView.{raw_put_in_front, raw_expression_of, raw_condition_of, raw_one, raw_optional, raw_branches, raw_statements_of}
-use Rattle.c_check.specs.Resolves.{loop_mark, named_mark}
 use Rattle.c_check.specs.Resolving.{statements_at, with_front, joined_to}
 use Rattle.c_check.proofs.RawFronts.{front-Declare, front-Assign, front-If, front-While, front-Do, front-For, front-Break, front-Continue, front-Return, front-Mark, front-Block}
 use Rattle.c_check.proofs.Going.{one_pushed, all_pushed, after_kind, puts_jump_break, puts_jump_continue, puts_return, puts_mark, puts_branches, puts_for_behind, fails_as, pushes_as, fails_test, fails_body}
