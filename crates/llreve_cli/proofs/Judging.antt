@@ -3,7 +3,7 @@ use Rattle.std.proofs.Common.{◌≡◌, ℕ, ◌≤◌, List, Option, refl, sym
 use Rattle.c_ast.specs.Function.{Function}
 use Rattle.c_ast.specs.declared.subject.Arity.{Arity}
 use Rattle.re_base.specs.Causes.{Rose}
-use Rattle.re_base.specs.Told.{IsWhole, IsLong}
+use Rattle.re_base.specs.Told.{IsLong}
 use Rattle.command_line.specs.declared.words.Command.{Command}
 use Rattle.command_line.specs.CommandLine.{IsCommand}
 use Rattle.report.specs.declared.fault.Fault.{Fault}

@@ -1,6 +1,5 @@
 -- Words and told texts lead to one outcome at most.
 use Rattle.std.proofs.Common.{◌≡◌, ◌≢◌, ℕ, ◌<◌, ◌≤◌, List, [], ◌∷◌, length, Option, Some, None, refl, sym, ap, ◌∙◌, subst, arith}
-use Rattle.std.specs.Prelude.{◌⊎◌}
 use Rattle.re_base.specs.Told.{IsLong, longest}
 use Rattle.c_ast.specs.Function.{Function}
 use Rattle.c_ast.specs.Comparison.{Comparison, comparison}
@@ -28,7 +27,7 @@ use Rattle.llreve_cli.specs.Reads.{Reads, IsReadFault, IsUnread, IsUnchecked}
 use Rattle.llreve_cli.specs.Compare.{Compares}
 use Rattle.llreve_cli.specs.Samples.{TellsApart}
 use Rattle.llreve_cli.specs.Told.{status_of}
-use Rattle.llreve_cli.specs.Leads.{IsRead, AreRead, AreFunctions, AreComparable, RefusesRead, RefusesText, arities, Leads, no_command, first_unread, second_unread, first_refused, second_refused, other_arity, compared}
+use Rattle.llreve_cli.specs.Leads.{IsRead, RefusesRead, RefusesText, arities, Leads, no_command, first_unread, second_unread, first_refused, second_refused, other_arity, compared}
 use Rattle.llreve_cli.specs.Answers.{AreTold, SampleDiffers}
 use Rattle.llreve_cli.proofs.OneReading.{tokens_once, parsed_once, one_function, not_unread, not_refused, reading_once}
 use Rattle.llreve_cli.proofs.OneVerdict.{verdict_once, apart_different}

@@ -1,11 +1,10 @@
 -- A text is read as one function at most, and a text that is read as one is not refused.
-use Rattle.std.proofs.Common.{◌≡◌, ◌≢◌, ℕ, ◌<◌, ◌≤◌, List, [], ◌∷◌, length, Option, Some, None, Result, Ok, Err, refl, sym, ap, ◌∙◌, subst, arith}
+use Rattle.std.proofs.Common.{◌≡◌, ◌≢◌, ℕ, ◌≤◌, List, [], ◌∷◌, length, Some, None, Result, Ok, Err, refl, sym, ap, ◌∙◌, subst, arith}
 use Rattle.std.specs.Prelude.{IfOk, IfErr, MatchResult}
 use Rattle.c_ast.specs.Function.{Function}
 use Rattle.c_ast.specs.RawTree.{RawFunction}
 use Rattle.c_tokens.specs.declared.token.Token.{Token}
-use Rattle.c_tokens.specs.declared.fault.TokenFault.{TokenFault}
-use Rattle.c_tokens.specs.Tokens.{AreTokens, IsFirstFault}
+use Rattle.c_tokens.specs.Tokens.{AreTokens}
 use Rattle.c_tokens.proofs.OneAnswer.{answers-one}
 use Rattle.c_reader.specs.declared.fault.ReadFault.{ReadFault}
 use Rattle.c_reader.specs.declared.fault.ReadFault.TheVariants as read
@@ -14,10 +13,10 @@ use Rattle.c_reader.proofs.UnitCompleteness.{unit-one}
 use Rattle.c_check.specs.declared.fault.CheckFault.{CheckFault}
 use Rattle.c_check.specs.declared.fault.CheckFault.TheVariants as check
 use Rattle.c_check.proofs.Checking.{same_function}
-use Rattle.c_check.specs.Checked.{HoldsOne, IsCheckFault, IsChecked, Checks, fault_in, variables_of}
+use Rattle.c_check.specs.Checked.{HoldsOne, IsCheckFault, Checks, fault_in, variables_of}
 use Rattle.llreve_cli.specs.declared.function.TextFault.{TextFault}
 use Rattle.llreve_cli.specs.declared.function.TextFault.TheVariants as refusal
-use Rattle.llreve_cli.specs.Reads.{Parses, Reads, IsReadFault, IsUnread, IsUnchecked, IsRefusal, IsTextFault, HasOneReading}
+use Rattle.llreve_cli.specs.Reads.{Parses, Reads, IsReadFault, IsUnread, IsRefusal, IsTextFault, HasOneReading}
 
 -- ---- one tree
 

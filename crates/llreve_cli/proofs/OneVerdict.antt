@@ -1,5 +1,5 @@
 -- Two functions have one verdict at most.
-use Rattle.std.proofs.Common.{◌≡◌, ◌≢◌, ℕ, zero, suc, ◌+◌, ◌<◌, ◌∷◌, [], List, length, Option, Some, None, ℤ, refl, sym, ap, ◌∙◌, subst, arith}
+use Rattle.std.proofs.Common.{◌≡◌, ℕ, suc, ◌<◌, ◌∷◌, [], List, length, Option, Some, None, ℤ, refl, sym, ap, ◌∙◌, subst, arith}
 use Rattle.c_ast.specs.declared.trace.Pair.{Pair}
 use Rattle.c_ast.specs.Comparison.{Comparison}
 use Rattle.trace_pair.specs.declared.skipped.Skipped.{Skipped}

@@ -1,5 +1,5 @@
 -- What a refused part of a text says of the text.
-use Rattle.std.proofs.Common.{◌≡◌, ◌≢◌, ℕ, ◌<◌, List, Option, Some, None, refl}
+use Rattle.std.proofs.Common.{◌≢◌, ℕ, List, Option, Some}
 use Rattle.c_ast.specs.RawTree.{RawFunction}
 use Rattle.c_tokens.specs.declared.token.Token.{Token}
 use Rattle.c_tokens.specs.declared.fault.TokenFault.{TokenFault}
@@ -10,8 +10,6 @@ use Rattle.c_tokens.specs.Tokens as follow
 use Rattle.c_tokens.specs.Tokens.{Follow, AreTokens, IsFirstFault, fault_at}
 use Rattle.c_reader.specs.declared.fault.ReadFault.{ReadFault}
 use Rattle.c_reader.specs.declared.fault.ReadFault.TheVariants as read
-use Rattle.c_reader.specs.Depth.{IsDeep, unit_depth}
-use Rattle.c_reader.specs.Units.{SpellsUnit}
 use Rattle.c_check.specs.declared.fault.CheckFault.{CheckFault}
 use Rattle.c_check.specs.declared.fault.CheckFault.TheVariants as check
 use Rattle.c_check.specs.Checked.{IsCheckFault}

@@ -23,7 +23,7 @@ use Rattle.llreve_cli.specs.declared.outcome.Outcome.TheVariants as outcome
 use Rattle.llreve_cli.specs.Samples.{IsAlike, AreAlike, IsDifference}
 use Rattle.llreve_cli.specs.Compare.{Compares}
 use Rattle.llreve_cli.specs.Leads.{AreComparable, subject_of, RefusesRead, RefusesText, Leads, no_command, first_unread, second_unread, first_refused, second_refused, other_arity, compared}
-use Rattle.llreve_cli.specs.Told.{fault_status, early_status, status_of, IsKeptOutcome}
+use Rattle.llreve_cli.specs.Told.{fault_status, early_status, IsKeptOutcome}
 use Rattle.llreve_cli.specs.Tells.{Tells}
 use Rattle.llreve_cli.specs.Answers.{AreEquivalent, AreDifferent, AreUnknown}
 use Rattle.llreve_cli.proofs.Reading.{first_fault-no_want, unread-no_want}
@@ -138,17 +138,19 @@ module _ (words : List (List ℕ)) (text : List ℕ → Option (List ℕ)) (befo
         on (early.Different index input first second, same, verdict, told) =
             let comparable = verdict.0 in
             let difference : IsDifference (subject_of comparable) index input first second = verdict.1 in
-            let traces = pair_has_traces (subject_of comparable) index difference.pair difference.apart.is in
-            (record {
-              comparable = comparable;
-              index = index;
-              input = input;
-              first = first;
-              second = second;
-              difference = difference;
-              first_returns = rw (difference.of_input, difference.of_first) traces.first.returns;
-              second_returns = rw (difference.of_input, difference.of_second) traces.second.returns;
-            }, told)
+            let traces = pair_has_traces (subject_of comparable) index difference.pair difference.apart.is in (
+              record {
+                comparable = comparable;
+                index = index;
+                input = input;
+                first = first;
+                second = second;
+                difference = difference;
+                first_returns = rw (difference.of_input, difference.of_first) traces.first.returns;
+                second_returns = rw (difference.of_input, difference.of_second) traces.second.returns;
+              },
+              told,
+            )
         on (early.Unknown samples, same, verdict, told) = absurd (omega (arith, same, is))
 
     pub unknown-told : (o : Outcome) → Leads words text before after o → Tells o out out' err err' p p' q q' status → status ≡ 2

@@ -3,7 +3,6 @@ use Rattle.std.specs.Prelude.{◌≡◌, ◌≢◌, ℕ, ◌<◌, ◌≤◌, Lis
 use Rattle.c_ast.specs.Function.{Function}
 use Rattle.c_ast.specs.RawTree.{RawFunction}
 use Rattle.c_tokens.specs.declared.token.Token.{Token}
-use Rattle.c_tokens.specs.declared.fault.TokenFault.{TokenFault}
 use Rattle.c_tokens.specs.Tokens.{AreTokens, IsFirstFault}
 use Rattle.c_reader.specs.declared.fault.ReadFault.{ReadFault}
 use Rattle.c_reader.specs.declared.fault.ReadFault.TheVariants as read

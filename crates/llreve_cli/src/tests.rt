@@ -408,14 +408,7 @@ fn texts_nest_as_deep_as_may_be(rt: HostRuntime) -> Result<(), Fail> {
             ")",
             "3||llreve: A.c: nested too deep\n",
         ),
-        (
-            "int f(int a){",
-            "if(a) ",
-            398,
-            "; return a;",
-            "",
-            DIFFERS,
-        ),
+        ("int f(int a){", "if(a) ", 398, "; return a;", "", DIFFERS),
         (
             "int f(int a){",
             "if(a) ",
@@ -449,7 +442,13 @@ fn with_variables(alloc: Global, count: usize) -> Result<String, AllocError> {
 #[test]
 fn variables_are_counted(rt: HostRuntime) -> Result<(), Fail> {
     let alloc = rt.alloc();
-    for (count, want) in [(63, "1|different\nsample 1\ninput 1\nA returns 1\nB returns 2\n|"), (64, "3||llreve: A.c: 65 variables\n")] {
+    for (count, want) in [
+        (
+            63,
+            "1|different\nsample 1\ninput 1\nA returns 1\nB returns 2\n|",
+        ),
+        (64, "3||llreve: A.c: 65 variables\n"),
+    ] {
         let text = with_variables(alloc, count)?;
         let got = Run::on(text.as_str(), TWICE).told(alloc, &NAMES)?;
         assert_eq!(rt; got.as_str(), want, "{count} variables");
@@ -462,7 +461,10 @@ fn words_are_judged_first(rt: HostRuntime) -> Result<(), Fail> {
     let usage = "3||llreve: usage: llreve [options] FIRST SECOND\n";
     let rows: [(&[&str], &str); 12] = [
         (&["A.c", "--alone", "B.c"], "0|equivalent\n|"),
-        (&["--seed", "+007", "B.c", "--alone", "--", "A.c"], "0|equivalent\n|"),
+        (
+            &["--seed", "+007", "B.c", "--alone", "--", "A.c"],
+            "0|equivalent\n|",
+        ),
         (&["--alone", "A.c", "A.c"], "0|equivalent\n|"),
         (
             &["--alone", "A.c", "make"],
@@ -478,7 +480,10 @@ fn words_are_judged_first(rt: HostRuntime) -> Result<(), Fail> {
         (&["--alone", "make", "1"], usage),
         (&["--alone", "A.c", "B.c", "--history"], usage),
         (&["--alone", "A.c", "B.c", "--samples", "0"], usage),
-        (&["--alone", "C.c", "B.c", "--samples=5", "--samples=5"], usage),
+        (
+            &["--alone", "C.c", "B.c", "--samples=5", "--samples=5"],
+            usage,
+        ),
     ];
     for (words, want) in rows {
         let got = Run::on(DOUBLE, TWICE).told(rt.alloc(), words)?;
@@ -533,13 +538,21 @@ fn a_failed_write_leaves_a_front(rt: HostRuntime) -> Result<(), Fail> {
         let mut call = 0;
         for letter in out.chars() {
             let want = format!(in alloc; "5|{}|", out_front.as_str())?;
-            assert_eq!(rt; cut(alloc, text, call)?.as_str(), want.as_str(), "{text} {call}");
+            assert_eq!(rt;
+                cut(alloc, text, call)?.as_str(),
+                want.as_str(),
+                "{text} {call}"
+            );
             out_front.push(letter)?;
             call = call.saturating_add(1);
         }
         for letter in err.chars() {
             let want = format!(in alloc; "5||{}", err_front.as_str())?;
-            assert_eq!(rt; cut(alloc, text, call)?.as_str(), want.as_str(), "{text} {call}");
+            assert_eq!(rt;
+                cut(alloc, text, call)?.as_str(),
+                want.as_str(),
+                "{text} {call}"
+            );
             err_front.push(letter)?;
             call = call.saturating_add(1);
         }

@@ -8,7 +8,7 @@ use std::test::Fail;
 use trace_pair::{PairRefused, pair};
 
 /// Both texts' functions, with 100 samples.
-fn subject(alloc: Global, first: &str, second: &str) -> Result<Subject, Fail>
+pub(super) fn subject(alloc: Global, first: &str, second: &str) -> Result<Subject, Fail>
     ensures { IfOk result (λ subject. subject.settings.samples ≡ 100) }
 {
     if first.len() > 65536 || second.len() > 65536 {

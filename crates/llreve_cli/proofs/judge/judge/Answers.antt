@@ -1,6 +1,6 @@
-use Rattle.std.proofs.Common.{refl, arith, map, string_bytes}
+use Rattle.std.proofs.Common.{arith, map, string_bytes}
 use Rattle.std.proofs.lemmas.Result.{err_from_is_err_and}
-use Rattle.llreve_cli.specs.Leads.{AreRead, AreFunctions, compared}
+use Rattle.llreve_cli.specs.Leads.{AreFunctions, compared}
 use Rattle.llreve_cli.proofs.Judging.{words_stop, first_stop, second_stop, first_text_stop, second_text_stop, arity_stop, read_files}
 use Rattle.llreve_cli.proofs.judge.judge.Goals as goal
 
@@ -50,8 +50,8 @@ returns-in_err-subject g c =
     let command = c.in_ok-command.command in
     let functions : AreFunctions (map string_bytes c.args.words.now) (g.F.Files.text c.args.files.now) = record {
       files = read_files (map string_bytes c.args.words.now) (g.F.Files.text c.args.files.now) (g.F.Files.text c.read_file.new.files) command
-      c.in_ok-first_text.first_text.items c.in_ok-second_text.second_text.items c.in_ok-command.ensures.command c.in_ok-first_text.ensures.read
-      (c.read_file.ensures.told command.second) c.in_ok-second_text.ensures.read;
+          c.in_ok-first_text.first_text.items c.in_ok-second_text.second_text.items c.in_ok-command.ensures.command c.in_ok-first_text.ensures.read
+          (c.read_file.ensures.told command.second) c.in_ok-second_text.ensures.read;
       first = c.in_ok-first.first;
       second = c.in_ok-second.second;
       first_parsed = rw c.deref.ensures.value at c.in_ok-first.ensures.read;
@@ -65,8 +65,8 @@ returns g c =
     let command = c.in_ok-command.command in
     let functions : AreFunctions (map string_bytes c.args.words.now) (g.F.Files.text c.args.files.now) = record {
       files = read_files (map string_bytes c.args.words.now) (g.F.Files.text c.args.files.now) (g.F.Files.text c.read_file.new.files) command
-      c.in_ok-first_text.first_text.items c.in_ok-second_text.second_text.items c.in_ok-command.ensures.command c.in_ok-first_text.ensures.read
-      (c.read_file.ensures.told command.second) c.in_ok-second_text.ensures.read;
+          c.in_ok-first_text.first_text.items c.in_ok-second_text.second_text.items c.in_ok-command.ensures.command c.in_ok-first_text.ensures.read
+          (c.read_file.ensures.told command.second) c.in_ok-second_text.ensures.read;
       first = c.in_ok-first.first;
       second = c.in_ok-second.second;
       first_parsed = rw c.deref.ensures.value at c.in_ok-first.ensures.read;

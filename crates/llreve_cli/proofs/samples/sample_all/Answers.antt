@@ -1,4 +1,4 @@
-use Rattle.std.proofs.Common.{◌≡◌, ℕ, ◌+◌, ◌++◌, ◌∷◌, [], length, refl, sym, subst, arith}
+use Rattle.std.proofs.Common.{◌≡◌, ℕ, ◌+◌, ◌∷◌, [], length, refl, subst, arith}
 use Rattle.std.proofs.lemmas.List.{length-append}
 use Rattle.llreve_cli.specs.Samples.{IsAlike}
 use Rattle.llreve_cli.proofs.Sampling.{alike_push, alike_not_apart}
@@ -22,6 +22,7 @@ loop-index-preserved c =
     let before = c.loop-index.samples.items in
     let alike : IsAlike c.args.subject.now c.loop-index.index c.in-Alike.sample = rw c.in-Alike.is at c.in_ok-sample.ensures in
     let place : c.loop-index.index ≡ 0 + length before = omega (arith, c.loop-index.invariant.0) in
-    rw c.in_ok-push-in-Alike.ensures.items
-    (omega (arith, c.loop-index.invariant.0, length-append before (c.in-Alike.sample ∷ [])),
-    alike_push c.args.subject.now 0 before c.in-Alike.sample c.loop-index.invariant.1 (subst (λ (k : ℕ). IsAlike c.args.subject.now k c.in-Alike.sample) place alike))
+    rw c.in_ok-push-in-Alike.ensures.items (
+      omega (arith, c.loop-index.invariant.0, length-append before (c.in-Alike.sample ∷ [])),
+      alike_push c.args.subject.now 0 before c.in-Alike.sample c.loop-index.invariant.1 (subst (λ (k : ℕ). IsAlike c.args.subject.now k c.in-Alike.sample) place alike),
+    )
