@@ -1,7 +1,7 @@
 //! Equal copies of trees and functions.
 ghost use Rattle.std.specs.Prelude.{◌≡◌, IfOk};
 
-use crate::{Expr, Name, Stmt, Var};
+use crate::{Expr, Stmt, Var};
 use sqlite_items::{Boxed, Items};
 use std::alloc::{AllocError, Global};
 
@@ -70,7 +70,7 @@ fn copy_stmt(alloc: Global, stmt: &Stmt) -> Result<Stmt, AllocError>
 
 /// An equal list of statements.
 #[cycle(copies)]
-pub fn copy_stmts(alloc: Global, stmts: &[Stmt]) -> Result<Items<Stmt>, AllocError>
+pub(crate) fn copy_stmts(alloc: Global, stmts: &[Stmt]) -> Result<Items<Stmt>, AllocError>
     ensures { IfOk result (λ made. made ≡ stmts.now) }
 {
     let mut made = Items::new(alloc);
@@ -91,7 +91,7 @@ fn copy_var(var: &Var) -> Result<Var, AllocError>
 }
 
 /// An equal list of variables.
-pub fn copy_vars(alloc: Global, vars: &[Var]) -> Result<Items<Var>, AllocError>
+pub(crate) fn copy_vars(alloc: Global, vars: &[Var]) -> Result<Items<Var>, AllocError>
     ensures { IfOk result (λ made. made ≡ vars.now) }
 {
     let mut made = Items::new(alloc);

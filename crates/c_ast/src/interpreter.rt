@@ -1,6 +1,6 @@
 //! A plain interpreter over the tree, slow and exact. `step` is one step of a run, and the loop around it knows nothing
 //! of the language. Items of work have no scopes: at a mark the function says which variables are in scope there.
-ghost use Rattle.std.specs.Prelude.{◌≡◌, ◌≤◌, [], ◌∷◌, if◌then◌else◌, length, slice_index_or, pos, OnOk, IfOk};
+ghost use Rattle.std.specs.Prelude.{◌≡◌, [], ◌∷◌, if◌then◌else◌, length, slice_index_or, pos, OnOk, IfOk};
 ghost use Rattle.c_ast.specs.Tree as tree;
 ghost use Rattle.c_ast.specs.View.{expression_of, statements_of};
 ghost use Rattle.c_ast.specs.Value.{VariablesBelow, is_nonzero};
@@ -24,7 +24,7 @@ pub enum Outcome {
     Returned(Trace),
     /// A part of an evaluated expression, also one that C would skip, has a value of 2^100 or more in size.
     Wide,
-    /// Neither happened within the steps.
+    /// Neither happened within the steps; or, where marks are limited, one mark more was to be passed.
     CutOff,
 }
 

@@ -23,7 +23,7 @@ mod tests;
 mod trace;
 mod value;
 
-pub use copy::{copy_expr, copy_stmts};
+pub use copy::copy_expr;
 pub use expr::{BinOp, Expr, UnOp};
 pub use func::{Func, Var};
 pub use interpreter::{Outcome, first_environment, interpret};

@@ -1,7 +1,7 @@
 //! The names of a source text. Contracts see a name as its bytes.
 ghost use Rattle.std.specs.Prelude.{◌≡◌, ◌↔◌, IfOk, IsTrue, string_bytes};
 
-use std::alloc::{AllocError, Global};
+use std::alloc::AllocError;
 use std::marker::Model;
 
 /// An identifier (ISO C11, 6.4.2), or a file's name in a message.

@@ -14,7 +14,6 @@ pub struct Settings {
 }
 
 impl Model for Settings {
-    ghost use Rattle.std.specs.Prelude.{ℕ};
     ghost use Rattle.c_ast.specs.Bounds.{Bounds, AreBounds};
 
     ghost Value = { Bounds };

@@ -1,5 +1,5 @@
 //! The values of expressions, computed plainly. A value of 2^100 or more in size is not handed out.
-ghost use Rattle.std.specs.Prelude.{◌≡◌, ◌<◌, ◌^◌, ◌*ℤ◌, true, if◌then◌else◌, length, IfSome, Some, None, MatchOption, ℕ};
+ghost use Rattle.std.specs.Prelude.{◌≡◌, ◌<◌, ◌*ℤ◌, true, if◌then◌else◌, length, IfSome, Some, None};
 ghost use Rattle.c_ast.specs.View.{expression_of};
 ghost use Rattle.c_ast.specs.Value.{unary_value, binary_value, is_nonzero, test_value, VariablesBelow};
 ghost use Rattle.c_ast.specs.Narrow.{is_narrow, only_if, narrow_value};

@@ -1,5 +1,5 @@
 //! What is known at a place of a file that is gone over in the order of the source.
-ghost use Rattle.std.specs.Prelude.{◌≡◌, ◌<◌, ◌+◌, ◌^◌, length, MatchResult, IfOk, IfErr, OnOk, Ok, Some};
+ghost use Rattle.std.specs.Prelude.{◌≡◌, ◌<◌, ◌+◌, ◌^◌, length, MatchResult, IfOk, IfErr, OnOk, Ok};
 ghost use Rattle.c_check.specs.declared.fault.CheckFault.TheVariants as fault;
 ghost use Rattle.c_check.specs.Resolves.{first_automatic};
 ghost use Rattle.c_check.specs.Resolving.{Fails, entered, left, with_loop, nothing_known, declared_at, marked_at};

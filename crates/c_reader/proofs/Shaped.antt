@@ -1,11 +1,11 @@
 -- What tokens spell has the shape that the grammar promises: no constant is negative, and the parts of a `for` head are
 -- of their kinds.
-use Rattle.std.proofs.Common.{◌≡◌, ℕ, suc, pos, List, [], ◌∷◌, Option, Some, None, All, subst, arith}
+use Rattle.std.proofs.Common.{◌≡◌, ℕ, suc, List, [], Option, Some, All, subst, arith}
 use Rattle.std.proofs.lemmas.Int.{ints}
 use Rattle.std.proofs.lemmas.List.Elements.{All-cons}
 use Rattle.c_ast.specs.RawTree as tree
 use Rattle.c_ast.specs.RawTree.{RawExpression, RawCondition, RawDeclared, RawStatements, RawFunction}
-use Rattle.c_ast.specs.RawView.{raw_joined, raw_one, raw_optional}
+use Rattle.c_ast.specs.RawView.{raw_joined, raw_optional}
 use Rattle.c_ast.specs.RawShape.{HasNaturalConstants, IsShapedDeclarator, IsForStep, IsForStart, IsShapedCondition, AreShaped, IsShaped}
 use Rattle.c_tokens.specs.declared.token.Token.{Token}
 use Rattle.c_reader.specs.Expressions as expr

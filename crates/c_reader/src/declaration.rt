@@ -1,5 +1,5 @@
 //! Declarations (ISO C11, 6.7) and parameters (6.7.6.3), by recursive descent. `room` is the greatest depth.
-ghost use Rattle.std.specs.Prelude.{◌≡◌, map, Some, IfOk, MatchOption, option_map};
+ghost use Rattle.std.specs.Prelude.{◌≡◌, map, Some, option_map};
 ghost use Rattle.c_ast.specs.RawView.{raw_expression_of, raw_declared_of, raw_put_in_front};
 ghost use Rattle.c_reader.specs.Gives.{Gives};
 ghost use Rattle.c_reader.specs.ReadDeclarations.{shallow_at, optional, name_at, begins_type, behind_type, listed_at, declarator_at, declaration_at, parameter_at, parameters_at};

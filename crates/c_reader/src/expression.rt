@@ -1,5 +1,5 @@
 //! Expressions (ISO C11, 6.5.1 to 6.5.15), by recursive descent.
-ghost use Rattle.std.specs.Prelude.{◌≡◌, ℕ, suc, pos, ◌+◌, ◌-◌, ◌<◌, ◌≤◌, ◌^◌, max, List, length, Some, None, IfOk, IfErr, IfSome, option_map};
+ghost use Rattle.std.specs.Prelude.{◌≡◌, pos, ◌+◌, ◌-◌, ◌<◌, ◌≤◌, ◌^◌, max, length, Some, None, IfOk, IfErr, IfSome, option_map};
 ghost use Rattle.c_ast.specs.RawTree.{Num, Named, Un, Bin, Cond};
 ghost use Rattle.c_ast.specs.RawView.{raw_expression_of};
 ghost use Rattle.c_reader.specs.Expressions.{expression_depth};

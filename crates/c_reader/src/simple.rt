@@ -1,9 +1,8 @@
 //! Assignments (ISO C11, 6.5.16), marks and conditions, by recursive descent. `room` is the greatest depth.
 ghost use Rattle.std.specs.Prelude.{◌≡◌, IfOk};
-ghost use Rattle.c_ast.specs.RawTree.{Bin, Named};
+ghost use Rattle.c_ast.specs.RawTree.{Bin};
 ghost use Rattle.c_ast.specs.RawView.{raw_expression_of, raw_condition_of, raw_put_in_front};
 ghost use Rattle.c_reader.specs.Gives.{Gives};
-ghost use Rattle.c_reader.specs.Faults.{Refuses};
 ghost use Rattle.c_reader.specs.Statements.{update_of, step_of, updated};
 ghost use Rattle.c_reader.specs.ReadStatements.{step_at, change_at, simple_at, constant_at, mark_at, condition_at, start_at};
 

@@ -1,6 +1,6 @@
 //! Statements (ISO C11, 6.8), by recursive descent. `room` is the greatest depth of what is read.
-ghost use Rattle.std.specs.Prelude.{◌≡◌, map, option_map};
-ghost use Rattle.c_ast.specs.RawView.{raw_expression_of, raw_condition_of, raw_put_in_front};
+ghost use Rattle.std.specs.Prelude.{map, option_map};
+ghost use Rattle.c_ast.specs.RawView.{raw_condition_of, raw_put_in_front};
 ghost use Rattle.c_reader.specs.Gives.{Gives};
 ghost use Rattle.c_reader.specs.Signs.{begins, behind_sign};
 ghost use Rattle.c_reader.specs.ReadDeclarations.{optional, unless};

@@ -1,5 +1,5 @@
 //! Files of functions (ISO C11, 6.9), by recursive descent. `room` is the greatest depth of what stands in a block.
-ghost use Rattle.std.specs.Prelude.{◌≡◌, ◌≤◌, ◌<◌, ◌++◌, ◌↔◌, List, All, map, option_map, option_to_list, IsTrue, IfOk, IsErrOf, OnOk};
+ghost use Rattle.std.specs.Prelude.{◌≡◌, ◌≤◌, ◌<◌, ◌++◌, List, All, map, option_map, option_to_list, IfOk, IsErrOf, OnOk};
 ghost use Rattle.c_ast.specs.RawTree.{RawFunction};
 ghost use Rattle.c_ast.specs.RawShape.{IsShaped};
 ghost use Rattle.c_ast.specs.RawView.{raw_function_of};

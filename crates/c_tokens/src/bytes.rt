@@ -1,5 +1,5 @@
 //! Classes of bytes (ISO C11, 5.2.1), and runs of one class.
-ghost use Rattle.std.specs.Prelude.{◌≡◌, ℕ, ◌<◌, ◌≤◌, length};
+ghost use Rattle.std.specs.Prelude.{◌≡◌, ◌≤◌, length};
 ghost use Rattle.c_tokens.specs.Bytes.{is_white, is_blank, is_digit, is_word_byte, digit_value, word_len};
 
 /// Whether the byte is white space: space, tab, newline, carriage return, vertical tab or form feed.

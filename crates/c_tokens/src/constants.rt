@@ -1,5 +1,5 @@
 //! The value of a constant (ISO C11, 6.4.4.1).
-ghost use Rattle.std.specs.Prelude.{◌≡◌, ℕ, ◌<◌, ◌≤◌, ◌^◌, length, min, option_map, bytes_eq, IsTrue};
+ghost use Rattle.std.specs.Prelude.{◌≡◌, ◌<◌, ◌≤◌, ◌^◌, length, min, option_map, bytes_eq, IsTrue};
 ghost use Rattle.std.specs.List.{list_any, prefix_len};
 ghost use Rattle.c_tokens.specs.Bytes.{is_digit_in};
 ghost use Rattle.c_tokens.specs.Constants.{value_in, is_suffix, is_hex_mark, is_hexadecimal, number_of, constant_of};

@@ -1,5 +1,5 @@
 //! What stands at a place of a text.
-ghost use Rattle.std.specs.Prelude.{◌≡◌, ℕ, ◌==◌, ◌<◌, ◌≤◌, ◌^◌, length, Option, IfOk, IsTrue, slice_index, option_map, min};
+ghost use Rattle.std.specs.Prelude.{◌≡◌, ℕ, ◌==◌, ◌<◌, ◌^◌, length, Option, IfOk, IsTrue, slice_index, option_map, min};
 ghost use Rattle.std.specs.List.{list_all};
 ghost use Rattle.c_tokens.specs.Bytes.{is_digit, is_word_byte};
 ghost use Rattle.c_tokens.specs.Tables.{operators};

@@ -1,9 +1,9 @@
 //! What may stand between tokens: white space, comments (ISO C11, 6.4.9) and `#include` lines (6.10.2).
-ghost use Rattle.std.specs.Prelude.{◌≡◌, false, ℕ, ◌<◌, ◌≤◌, ◌+◌, ◌^◌, length, drop, MatchOption, IsTrue, slice_index};
+ghost use Rattle.std.specs.Prelude.{◌≡◌, false, ℕ, ◌<◌, ◌≤◌, ◌+◌, ◌^◌, length, MatchOption, slice_index};
 ghost use Rattle.std.specs.List.{prefix_len};
 ghost use Rattle.c_tokens.specs.Bytes.{is_blank, is_white};
 ghost use Rattle.c_tokens.specs.Scanned.{IsWithin};
-ghost use Rattle.c_tokens.specs.Gaps.{line_len, behind_blanks, first_word, is_include, opening_of, IsEndAt, CommentFound};
+ghost use Rattle.c_tokens.specs.Gaps.{line_len, behind_blanks, is_include, opening_of, IsEndAt, CommentFound};
 
 use crate::bytes::{is_blank, is_white, word_len};
 use crate::found::Found;

@@ -1,5 +1,5 @@
 //! A place of a text: its line, its column, and whether it is the front of its line.
-ghost use Rattle.std.specs.Prelude.{◌≡◌, ℕ, ◌+◌, ◌<◌, ◌≤◌, ◌^◌, length};
+ghost use Rattle.std.specs.Prelude.{◌≡◌, ◌+◌, ◌<◌, ◌≤◌, ◌^◌, length};
 ghost use Rattle.c_tokens.specs.declared.place.Place.{Place};
 ghost use Rattle.c_tokens.specs.Steps.{after_byte, after_bytes};
 

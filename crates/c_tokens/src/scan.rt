@@ -1,5 +1,5 @@
 //! The tokens of a text, from place to place.
-ghost use Rattle.std.specs.Prelude.{◌≡◌, ◌≤◌, ◌<◌, ◌+◌, ◌++◌, ◌^◌, ℕ, List, length, IfOk, IfErr, OnOk, IsUtf8, option_to_list, MatchResult, ◌⊎◌};
+ghost use Rattle.std.specs.Prelude.{◌≡◌, ◌≤◌, ◌<◌, ◌+◌, ◌++◌, ◌^◌, List, length, IfOk, IfErr, OnOk, IsUtf8, option_to_list, MatchResult, ◌⊎◌};
 ghost use Rattle.c_tokens.specs.declared.token.Token.{Token};
 ghost use Rattle.c_tokens.specs.declared.fault.TokenFault.{TokenFault};
 ghost use Rattle.c_tokens.specs.Steps.{IsStep};

@@ -1,5 +1,5 @@
 //! What a word or an operator is to the profile (ISO C11, 6.4.1, 6.4.2 and 6.4.6).
-ghost use Rattle.std.specs.Prelude.{◌≡◌, ℕ, Option, IfOk, IsTrue, bytes_eq, nat_eq, find, option_map};
+ghost use Rattle.std.specs.Prelude.{◌≡◌, Option, IfOk, IsTrue, bytes_eq, nat_eq, find, option_map};
 ghost use Rattle.std.specs.List.{list_all, starts_with};
 ghost use Rattle.std.specs.Option.{option_copied};
 ghost use Rattle.c_tokens.specs.Bytes.{is_word_byte};

@@ -1,5 +1,5 @@
 //! What the words of a command line say.
-ghost use Rattle.std.specs.Prelude.{◌≡◌, map, string_bytes, IfOk, IfErr};
+ghost use Rattle.std.specs.Prelude.{map, string_bytes, IfOk, IfErr};
 ghost use Rattle.command_line.specs.CommandLine.{IsCommand, IsOneCommand};
 ghost use Rattle.command_line.specs.Refused.{IsNoCommand};
 

@@ -1,5 +1,5 @@
 //! One column is eliminated.
-ghost use Rattle.std.specs.Prelude.{◌≡◌, ℕ, ◌<◌, IfOk, IsTrue, Bool, false, map, All, length, position, neg_ℤ, ◌*ℤ◌, List, Ok, ◌∷◌, ◌++◌, [], filter};
+ghost use Rattle.std.specs.Prelude.{◌≡◌, ◌<◌, IfOk, map, All, position, neg_ℤ, ◌*ℤ◌, Ok, ◌++◌};
 ghost use Rattle.lin_terms.specs.Row.{IsNarrow};
 ghost use Rattle.elimination.specs.Combination.{Combination, entry, is_zero, is_positive, is_negative, sign, size};
 ghost use Rattle.elimination.specs.Column.{is_pivot, reduced, paired, without, lower_bounds, upper_bounds, pairs, projected};

@@ -1,5 +1,5 @@
 //! Rows with the multipliers that make them of the given rows.
-ghost use Rattle.std.specs.Prelude.{◌≡◌, ◌↔◌, ◌-◌, ℕ, ◌<◌, ◌≤◌, ◌^◌, ◌<ℤ◌, ◌+ℤ◌, ◌*ℤ◌, pos, map, max, unsigned_abs, All, IfOk, IsTrue, int_lt, length, slice_index_or};
+ghost use Rattle.std.specs.Prelude.{◌≡◌, ◌↔◌, ◌-◌, ◌<◌, ◌^◌, ◌<ℤ◌, ◌+ℤ◌, ◌*ℤ◌, pos, map, unsigned_abs, All, IfOk, IsTrue, int_lt, length};
 ghost use Rattle.std.specs.Int.{int_div_euclid};
 ghost use Rattle.lin_terms.specs.Divisor.{gcd_of, gcd_with};
 ghost use Rattle.lin_terms.specs.Row.{IsNarrow};
@@ -7,7 +7,7 @@ ghost use Rattle.lin_terms.specs.Vectors.{plus, scaled};
 ghost use Rattle.elimination.specs.Combination.{entry, is_zero, is_positive, is_negative, combined};
 ghost use Rattle.elimination.specs.Joining.{numbers_of, divided, primitive, has_no_variable, allows, turned, is_parallel};
 ghost use Rattle.elimination.specs.Eliminated.{given_row};
-ghost use Rattle.elimination.specs.Working.{IsWorking, HasShape, IsNarrowCombination, IsSmallCombination};
+ghost use Rattle.elimination.specs.Working.{IsNarrowCombination, IsSmallCombination};
 
 use crate::multipliers::{Multipliers, Weights, product};
 use lin_terms::{Row, gcd};

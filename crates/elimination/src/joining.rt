@@ -1,7 +1,7 @@
 //! Rows that join a list, one after the other.
-ghost use Rattle.std.specs.Prelude.{◌≡◌, List, length, position, OnOk, OnErr, IfSome, ◌∷◌, [], ◌++◌};
+ghost use Rattle.std.specs.Prelude.{◌≡◌, List, position, OnOk};
 ghost use Rattle.elimination.specs.Combination.{Combination};
-ghost use Rattle.elimination.specs.Joining.{judged, is_parallel, placed, added, counted, admitted, joined};
+ghost use Rattle.elimination.specs.Joining.{judged, is_parallel, placed, added, counted, joined};
 ghost use Rattle.elimination.specs.Working.{IsNarrowCombination, IsSmallCombination};
 ghost use Rattle.elimination.specs.Outcome.{IsOutcome};
 

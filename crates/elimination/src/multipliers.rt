@@ -1,7 +1,7 @@
 //! The multipliers of a row: a number for each given row, few of which are not 0.
 //!
 //! Those that are not 0 are kept, by rising number of their rows. Contracts see the list of all.
-ghost use Rattle.std.specs.Prelude.{◌≡◌, ℕ, ℤ, List, [], ◌<◌, ◌≤◌, ◌^◌, ◌-◌, ◌↔◌, ◌<ℤ◌, ◌+ℤ◌, ◌*ℤ◌, pos, map, IsTrue, unsigned_abs, All, IfOk, OnOk, length, replicate, ◌∷◌, ◌++◌};
+ghost use Rattle.std.specs.Prelude.{◌≡◌, ℕ, ℤ, List, [], ◌<◌, ◌^◌, ◌-◌, ◌↔◌, ◌<ℤ◌, ◌+ℤ◌, ◌*ℤ◌, pos, map, IsTrue, unsigned_abs, All, IfOk, OnOk, length, replicate, ◌∷◌, ◌++◌};
 ghost use Rattle.std.specs.Int.{int_div_euclid};
 ghost use Rattle.lin_terms.specs.Divisor.{gcd_of, gcd_with};
 ghost use Rattle.lin_terms.specs.Row.{IsNarrow};

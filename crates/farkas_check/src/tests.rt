@@ -1,5 +1,5 @@
 //! Rows and multipliers that were worked out by hand.
-ghost use Rattle.std.specs.Prelude.{◌≡◌, ◌↔◌, All, IsTrue};
+ghost use Rattle.std.specs.Prelude.{◌↔◌, All, IsTrue};
 ghost use Rattle.lin_terms.specs.Row.{IsNarrow};
 ghost use Rattle.farkas_check.specs.Refutes.{IsCheckable};
 

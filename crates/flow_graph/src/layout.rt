@@ -1,11 +1,11 @@
 //! Statements as nodes, laid from the last to the first, so that each knows the node that comes next.
 //!
 //! A loop's test is reached from its body, so a slot is kept open for it and filled when the body is laid.
-ghost use Rattle.std.specs.Prelude.{◌≡◌, ◌<◌, ◌^◌, [], ◌∷◌, ◌++◌, length, filter_map, OnOk, IfOk, Some, None};
+ghost use Rattle.std.specs.Prelude.{◌≡◌, ◌<◌, ◌^◌, length, filter_map, OnOk, IfOk, Some, None};
 ghost use Rattle.std.specs.Option.{option_map};
 ghost use Rattle.c_ast.specs.View.{put_in_front, expression_of, statements_of};
 ghost use Rattle.flow_graph.specs.Operation.{Set, Branch, operation_of};
-ghost use Rattle.flow_graph.specs.Layout.{Layout, layout, slots_of, added, filled, lay, Lays};
+ghost use Rattle.flow_graph.specs.Layout.{layout, slots_of, added, filled, lay, Lays};
 
 use crate::Op;
 use c_ast::{Expr, Stmt, copy_expr};

@@ -1,5 +1,5 @@
 //! One step of a graph.
-ghost use Rattle.std.specs.Prelude.{◌≡◌, ◌<◌, if◌then◌else◌, length, map, IfOk, All};
+ghost use Rattle.std.specs.Prelude.{◌≡◌, ◌<◌, if◌then◌else◌, length, IfOk, All};
 ghost use Rattle.c_ast.specs.Value.{is_nonzero};
 ghost use Rattle.c_ast.specs.declared.place.Place.TheVariants as place;
 ghost use Rattle.flow_graph.specs.Operation.{operation_of};

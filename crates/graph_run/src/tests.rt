@@ -1,10 +1,9 @@
 //! A run that was worked out by hand, from the meaning of C's statements.
-ghost use Rattle.std.specs.Prelude.{◌≡◌, [], ◌∷◌, length, pos, IfOk, Some, true};
+ghost use Rattle.std.specs.Prelude.{◌≡◌, length, pos, IfOk, Some, true};
 ghost use Rattle.c_ast.specs.declared.expr.BinOp.TheVariants.{Add};
 ghost use Rattle.c_ast.specs.Tree as tree;
-ghost use Rattle.c_ast.specs.Tree.{Statements};
 ghost use Rattle.c_ast.specs.Narrow.{is_narrow};
-ghost use Rattle.c_ast.specs.View.{expression_of, put_in_front, statements_of};
+ghost use Rattle.c_ast.specs.View.{expression_of, statements_of};
 ghost use Rattle.c_ast.specs.Function.{program_of};
 ghost use Rattle.c_ast.specs.Sums.{sums};
 

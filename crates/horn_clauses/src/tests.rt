@@ -1,6 +1,5 @@
 //! Atoms judged by hand, and nodes in their order.
-ghost use Rattle.std.specs.Prelude.{◌≡◌, ◌≤◌, ◌<◌, ◌^◌, IsTrue, IfOk, All, unsigned_abs};
-ghost use Rattle.horn_clauses.specs.Atom.{CanJudge};
+ghost use Rattle.std.specs.Prelude.{◌≤◌, ◌<◌, ◌^◌, IsTrue, All, unsigned_abs};
 
 use crate::{Atom, Family, Node, Rel};
 use c_ast::Place;

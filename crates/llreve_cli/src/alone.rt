@@ -1,5 +1,5 @@
 //! The whole command on one thread.
-ghost use Rattle.std.specs.Prelude.{◌≡◌, ◌≢◌, map, string_bytes, codes, IfOk};
+ghost use Rattle.std.specs.Prelude.{◌≡◌, ◌≢◌, map, string_bytes, IfOk};
 ghost use Rattle.std.specs.Io.KnownBytes.{Appends, Keeps};
 ghost use Rattle.report.specs.Early.{early_text};
 ghost use Rattle.report.specs.declared.early.Early.TheVariants as early;

@@ -1,9 +1,7 @@
 //! From the words and the files to the outcome.
 ghost use Rattle.std.specs.Prelude.{◌≡◌, ℕ, ◌≤◌, List, length, map, string_bytes, IfOk, IfErr, MatchResult};
-ghost use Rattle.c_ast.specs.Function.{Function};
 ghost use Rattle.c_ast.specs.Comparison.{comparison};
 ghost use Rattle.command_line.specs.CommandLine.{IsCommand};
-ghost use Rattle.re_base.specs.Told.{IsWhole};
 ghost use Rattle.llreve_cli.specs.Reads.{Reads};
 ghost use Rattle.llreve_cli.specs.Leads.{IsRead, RefusesRead, RefusesText};
 ghost use Rattle.llreve_cli.specs.Judged.{RefusesWords, RefusesArity, LeadsToVerdict};

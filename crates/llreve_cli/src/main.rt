@@ -1,7 +1,8 @@
 //! llreve: a regression verifier for integer C functions.
 //!
 //! `main` makes the real files and sinks; `llreve_alone` in `alone.rt` does all the rest, and its contract is what
-//! the program promises. `specs/Leads.antt` says when each outcome comes, `specs/Answers.antt` what is written then.
+//! the program promises. `specs/Leads.antt` says when each outcome comes, `specs/Told.antt` what is written then, and
+//! `specs/Answers.antt` what each status says of the two files.
 #![tactic(auto)]
 
 mod alone;

@@ -1,5 +1,4 @@
 //! Writing an outcome.
-ghost use Rattle.std.specs.Prelude.{◌≡◌};
 ghost use Rattle.llreve_cli.specs.Told.{IsKeptOutcome};
 ghost use Rattle.llreve_cli.specs.Tells.{Tells};
 

@@ -2,7 +2,7 @@
 //!
 //! Nothing is told of what they hold. Contracts see them as the count of their faults, which stops at the last value
 //! of a u64. What is right of a reader whose bytes are known is a contract of its own (`read_text`).
-ghost use Rattle.std.specs.Prelude.{◌≡◌, ℕ, ◌≤◌, ◌↔◌, ◌⊎◌, List, None, IfOk, IsErrOf, vec_len};
+ghost use Rattle.std.specs.Prelude.{◌≡◌, ℕ, ◌≤◌, ◌↔◌, ◌⊎◌, None, IfOk, IsErrOf, vec_len};
 ghost use Rattle.std.specs.IoError.{error_kind};
 ghost use Rattle.std.specs.declared.io.ErrorKind.{ErrorKind};
 ghost use Rattle.re_base.specs.Causes.{Rose};

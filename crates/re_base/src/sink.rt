@@ -1,7 +1,7 @@
 //! Sinks that bytes are put into, piece by piece.
 //!
 //! What a sink holds may be told. It has a count of faults, which never falls.
-ghost use Rattle.std.specs.Prelude.{◌≡◌, ℕ, ◌<◌, ◌≤◌, List, Option, length, IfOk, OnOk, OnErr};
+ghost use Rattle.std.specs.Prelude.{ℕ, ◌<◌, ◌≤◌, List, Option, length, IfOk, OnOk, OnErr};
 ghost use Rattle.std.specs.Io.KnownBytes.{Appends, WriteAppends};
 ghost use Rattle.re_base.specs.Causes.{HasCause};
 ghost use Rattle.re_base.specs.Told.{AppendsPrefix};

@@ -1,5 +1,5 @@
 //! What is refused, and the line that tells it.
-ghost use Rattle.std.specs.Prelude.{◌≡◌, ◌≢◌, ◌++◌, IfOk, string_bytes, codes, decimal};
+ghost use Rattle.std.specs.Prelude.{◌≡◌, ◌≢◌, IfOk, string_bytes};
 ghost use Rattle.report.specs.Faults.{IsKept, fault_text, about, token_text, reader_text, check_text, arity_text};
 
 use c_ast::{Arity, Name};

@@ -1,5 +1,5 @@
 //! What came of the samples, told by cause.
-ghost use Rattle.std.specs.Prelude.{◌≡◌, ◌++◌, ◌↔◌, IsTrue, IfOk, OnOk, string_bytes};
+ghost use Rattle.std.specs.Prelude.{◌≡◌, ◌++◌, IfOk, OnOk, string_bytes};
 ghost use Rattle.report.specs.Samples.{is_same, indexes_where, skip_of, index_line, sample_line, sample_lines};
 
 use crate::indexes::indexes_text;
