@@ -17,4 +17,5 @@ pub mod Interpreting
 pub mod RunSamples
 pub mod WorkedRuns
 pub mod Outcomes
+pub mod Judging
 pub mod Distinct

@@ -1,9 +1,10 @@
--- Laws of runs: what is returned, traces, and the places that follow one another.
-use Rattle.std.specs.Prelude.{◌≡◌, ℕ, ◌≤◌, ◌↔◌, List, ℤ, length, All}
+-- Laws of runs: what is returned, traces, the places that follow one another, and runs with a limit of marks.
+use Rattle.std.specs.Prelude.{◌≡◌, ℕ, ◌<◌, ◌≤◌, ◌↔◌, ◌⊎◌, List, ℤ, length, All}
 use Rattle.c_ast.specs.declared.place.Place.{Place}
 use Rattle.c_ast.specs.declared.place.Place.TheVariants as place
 use Rattle.c_ast.specs.declared.trace.Event.{Event}
 use Rattle.c_ast.specs.declared.trace.Trace.{Trace}
+use Rattle.c_ast.specs.declared.interpreter.Outcome.{Outcome}
 use Rattle.c_ast.specs.declared.interpreter.Outcome.TheVariants as outcome
 use Rattle.c_ast.specs.Tree.{Program}
 use Rattle.c_ast.specs.Step.{Work}
@@ -12,6 +13,7 @@ use Rattle.c_ast.specs.Trace.{IsTrace}
 use Rattle.c_ast.specs.Segment.{GoesOnFrom, FitsPlace, IsSegment}
 use Rattle.c_ast.specs.Formed.{IsProgram}
 use Rattle.c_ast.specs.Interpreted.{outcome_within}
+use Rattle.c_ast.specs.Judged.{IsJudged}
 
 -- A function returns at most one value on an input.
 abbrev pub ReturnsOnce : Type 0
@@ -53,3 +55,20 @@ TraceFits = (f : Program) → IsProgram f → (inputs : List ℤ) (trace : Trace
 -- What comes of some number of steps, where it is a trace, is the function's trace.
 abbrev pub OutcomeIsTrace : Type 0
 OutcomeIsTrace = (f : Program) (inputs : List ℤ) (steps : ℕ) (trace : Trace) → outcome_within steps f inputs ≡ outcome.Returned trace → IsTrace f inputs trace
+
+-- A run with a limit of marks has at most one outcome.
+abbrev pub IsJudgedOnce : Type 0
+IsJudgedOnce = (f : Program) (inputs : List ℤ) (limit : ℕ) (o p : Outcome) → IsJudged f inputs limit o → IsJudged f inputs limit p → o ≡ p
+
+-- A trace that comes of a run with a limit is the function's, and passes at most so many marks.
+abbrev pub JudgedIsTrace : Type 0
+JudgedIsTrace = (f : Program) (inputs : List ℤ) (limit : ℕ) (trace : Trace) → IsJudged f inputs limit (outcome.Returned trace) → IsTrace f inputs trace × (length trace.events ≤ limit)
+
+-- Where a run is cut off, a trace of the function passes more marks than the limit.
+abbrev pub CutOffPassesMore : Type 0
+CutOffPassesMore = (f : Program) (inputs : List ℤ) (limit : ℕ) (trace : Trace) → IsJudged f inputs limit outcome.CutOff → IsTrace f inputs trace → limit < length trace.events
+
+-- Where a trace of the function passes at most so many marks, the run returns it or meets a wide value.
+abbrev pub TraceIsJudged : Type 0
+TraceIsJudged = (f : Program) (inputs : List ℤ) (limit : ℕ) (trace : Trace) → IsTrace f inputs trace → length trace.events ≤ limit
+    → IsJudged f inputs limit (outcome.Returned trace) ⊎ IsJudged f inputs limit outcome.Wide

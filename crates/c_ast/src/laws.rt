@@ -1,5 +1,5 @@
 //! Laws of runs, each the contract of a function that does nothing. `specs/Laws.antt` states them.
-ghost use Rattle.c_ast.specs.Laws.{ReturnsOnce, HasOneTrace, TraceReturns, WorkIsDetermined, NextPlaceIsDetermined, NextPlaceExists, MeetsFittingValues, TraceFits, OutcomeIsTrace};
+ghost use Rattle.c_ast.specs.Laws.{ReturnsOnce, HasOneTrace, TraceReturns, WorkIsDetermined, NextPlaceIsDetermined, NextPlaceExists, MeetsFittingValues, TraceFits, OutcomeIsTrace, IsJudgedOnce, JudgedIsTrace, CutOffPassesMore, TraceIsJudged};
 
 /// A function returns at most one value on an input.
 pub fn law_of_results()
@@ -20,4 +20,13 @@ pub fn law_of_segments()
     ensures determined { NextPlaceIsDetermined }
     ensures exists { NextPlaceExists }
     ensures fits { MeetsFittingValues }
+{}
+
+/// A run that may pass a number of marks has at most one outcome. A trace among the outcomes is the function's, with no
+/// more marks; a run that is cut off passes more; and a trace with no more comes of the run, but where a wide value is met.
+pub fn law_of_outcomes()
+    ensures one { IsJudgedOnce }
+    ensures trace { JudgedIsTrace }
+    ensures cut_off { CutOffPassesMore }
+    ensures judged { TraceIsJudged }
 {}

@@ -27,7 +27,7 @@ pub use copy::copy_expr;
 pub use expr::{BinOp, Expr, UnOp};
 pub use func::{Func, Var};
 pub use interpreter::{Outcome, first_environment, interpret};
-pub use laws::{law_of_results, law_of_segments, law_of_traces};
+pub use laws::{law_of_outcomes, law_of_results, law_of_segments, law_of_traces};
 pub use name::Name;
 pub use place::{Place, Side};
 pub use raw::{RawCond, RawDeclarator, RawExpr, RawFunc, RawStmt, RawUnit};

@@ -10,10 +10,10 @@ use Rattle.c_ast.specs.Tree.{Program}
 use Rattle.c_ast.specs.Function.{program_of}
 use Rattle.c_ast.specs.Comparison.{Comparison}
 use Rattle.c_ast.proofs.Runs.{judged_once, trace_returns}
+use Rattle.c_ast.proofs.Judging.{judged_is_trace}
 use Rattle.graph_run.specs.declared.skip.Skip.{Skip}
 use Rattle.graph_run.specs.declared.skip.Skip.TheVariants as skip
 use Rattle.graph_run.specs.Answers.{AreNarrow}
-use Rattle.graph_run.proofs.Judging.{judged_is_trace}
 use Rattle.trace_pair.specs.Inputs.{IsNear}
 use Rattle.trace_pair.specs.Pairs.{input_at, ReturnsWithin, MeetsFirst, IsPair, IsSkippedOn}
 use Rattle.trace_pair.specs.Laws.{IsOnePair, IsOneSkip, PairIsNoSkip, IsTraceWithin, PairHasTraces}
