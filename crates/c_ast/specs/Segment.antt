@@ -52,6 +52,7 @@ FitsPlace f (place.Mark mark) values = (work : Work) × Follows f mark work × (
 FitsPlace f place.Exit values = length values ≡ 1
 
 -- From the place `l` with the values `e` in scope and 0 elsewhere, the next place that is met is `l'`, with the values `e'`.
+-- `e` may have any length: a variable in scope without a value is 0, and values beyond the variables in scope are left out.
 pub record IsSegment (f : Program) (l : Place) (e : List ℤ) (l' : Place) (e' : List ℤ) : Type 0 where
   pub work : Work
   pub from : GoesOnFrom f l work

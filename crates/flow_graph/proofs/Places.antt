@@ -3,10 +3,11 @@ use Rattle.std.proofs.lemmas.Bool.{eq-eqb}
 use Rattle.std.proofs.Common.{◌≡◌, ℕ, Bool, true, false, cond, ◌≤◌, List, [], ◌∷◌, ◌++◌, length, map, drop, drop_of_length-le, append-nil, All, get_or, Option, Some, IsSome, refl, sym, ap, ◌∙◌, subst, arith}
 use Rattle.std.proofs.lemmas.List.Elements.{All-cons, All-append, All-map}
 use Rattle.std.specs.Prelude.{◌==◌}
+use Rattle.std.specs.List.Sorted.{IsStrictlyIncreasing}
 use Rattle.c_ast.specs.declared.place.Place.{Place}
 use Rattle.c_ast.specs.declared.place.Place.TheVariants as place
 use Rattle.flow_graph.specs.declared.stop.Stop.{Stop}
-use Rattle.flow_graph.specs.FlowGraph.{FlowGraph, stop_of, places_of, HasPlace}
+use Rattle.flow_graph.specs.FlowGraph.{FlowGraph, stop_of, places_of, marks_among, HasPlace}
 
 found_first : (t : Bool) (stop : Stop) (others : Option Stop) → t ≡ true → IsSome (cond t (Some stop) others)
 found_first t stop others is = subst (λ (b : Bool). IsSome (cond b (Some stop) others)) (sym is) refl
@@ -34,3 +35,10 @@ places_listed stops i listed new past lists new_is =
     let all : listed ≡ place.Entry ∷ map (λ (stop : Stop). place.Mark stop.mark) stops =
     sym (append-nil listed) ∙ ap (λ (z : List Stop). listed ++ map (λ (stop : Stop). place.Mark stop.mark) z) (sym (drop_of_length-le stops past)) ∙ lists in
     new_is ∙ ap (λ (z : List Place). z ++ place.Exit ∷ []) all
+
+marks_are : (stops : List Stop) → marks_among (map (λ (stop : Stop). place.Mark stop.mark) stops ++ place.Exit ∷ []) ≡ map (λ (stop : Stop). stop.mark) stops
+marks_are [] = refl
+marks_are (stop ∷ stops) = ap (λ (marks : List ℕ). stop.mark ∷ marks) (marks_are stops)
+
+pub marks_rise : (graph : FlowGraph) → IsStrictlyIncreasing (map (λ (stop : Stop). stop.mark) graph.stops) → IsStrictlyIncreasing (marks_among (places_of graph))
+marks_rise graph rising = subst IsStrictlyIncreasing (sym (marks_are graph.stops)) rising

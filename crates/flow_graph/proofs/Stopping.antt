@@ -2,9 +2,10 @@
 use Rattle.std.proofs.lemmas.Bool.{eqb-true, eq-eqb}
 use Rattle.std.proofs.lemmas.Bool.Decides.{nat_tests}
 use Rattle.std.proofs.lemmas.Option.{slice_get-get_or}
-use Rattle.std.proofs.Common.{◌≡◌, ℕ, suc, ◌+◌, ◌<◌, Bool, true, false, cond, nat_lt, ◌⊎◌, inl, inr, List, [], ◌∷◌, length, get_or, Option, Some, None, refl, sym, ap, ◌∙◌, subst, arith}
-use Rattle.std.specs.Prelude.{◌==◌, insert, slice_get}
+use Rattle.std.proofs.Common.{◌≡◌, ℕ, zero, suc, ◌+◌, ◌<◌, Bool, true, false, cond, nat_lt, ◌⊎◌, inl, inr, List, [], ◌∷◌, length, map, get_or, Option, Some, None, refl, sym, ap, ◌∙◌, subst, arith}
+use Rattle.std.specs.Prelude.{◌==◌, insert, slice_get, slice_index}
 use Rattle.std.specs.List.{prefix_len}
+use Rattle.std.specs.List.Sorted.{IsStrictlyIncreasing}
 use Rattle.std.specs.Option.{option_map}
 use Rattle.c_ast.specs.declared.place.Place.TheVariants as place
 use Rattle.c_ast.specs.Tree.{Program}
@@ -15,7 +16,7 @@ use Rattle.flow_graph.specs.declared.stop.Stop.{Stop}
 use Rattle.flow_graph.specs.Operation.{Mark, operation_of}
 use Rattle.flow_graph.specs.FlowGraph.{stop_of}
 use Rattle.flow_graph.specs.WellFormed.{IsStop}
-use Rattle.flow_graph.specs.Stops.{with_stop, Rises, AreRising, Marks, MarksOf, AreStops}
+use Rattle.flow_graph.specs.Stops.{with_stop, Marks, MarksOf, AreStops}
 
 insert_prefix : (stop : Stop) (stops : List Stop) → insert stops (prefix_len (λ other. nat_lt other.mark stop.mark) stops) stop ≡ with_stop stop stops
 insert_prefix stop [] = refl
@@ -59,28 +60,55 @@ apart stop first others none over =
     let h = (none_here (first.mark == stop.mark) first (stop_of others stop.mark) none).0 in
     grind (arith, nat_tests)
 
-rises_more : (low : ℕ) (stop : Stop) (stops : List Stop) → low < stop.mark → stop_of stops stop.mark ≡ None → Rises low stops → Rises low (with_stop stop stops)
-rises_more low stop [] below none rises = (below, tt)
-rises_more low stop (first ∷ others) below none rises =
-    on (nat_lt first.mark stop.mark) refl (λ lt. rises_more first.mark stop others lt (none_here (first.mark == stop.mark) first (stop_of others stop.mark) none).1 rises.1)
-  where
-    on : (t : Bool) → nat_lt first.mark stop.mark ≡ t → (first.mark < stop.mark → Rises first.mark (with_stop stop others)) → Rises low (cond t (first ∷ with_stop stop others) (stop ∷ first ∷ others))
-    on true is more = (rises.0, more (grind (arith, nat_tests)))
-    on false is more = (below, (apart stop first others none is, rises.1))
+abbrev marks : List Stop → List ℕ
+marks stops = map (λ (stop : Stop). stop.mark) stops
 
-rising_more : (stop : Stop) (stops : List Stop) → stop_of stops stop.mark ≡ None → AreRising stops → AreRising (with_stop stop stops)
-rising_more stop [] none rising = tt
-rising_more stop (first ∷ others) none rising =
-    on (nat_lt first.mark stop.mark) refl (λ lt. rises_more first.mark stop others lt (none_here (first.mark == stop.mark) first (stop_of others stop.mark) none).1 rising)
+one_increases : (x : ℕ) → IsStrictlyIncreasing (x ∷ [])
+one_increases x = λ k below. absurd (omega arith)
+
+after_next : (k : ℕ) → suc (k + 1) ≡ suc k + 1
+after_next k = omega arith
+
+front_increases : (x y : ℕ) (ys : List ℕ) → x < y → IsStrictlyIncreasing (y ∷ ys) → IsStrictlyIncreasing (x ∷ y ∷ ys)
+front_increases x y ys below rising zero within = below
+front_increases x y ys below rising (suc k) within = subst (λ (i : ℕ). slice_index (y ∷ ys) k < slice_index (x ∷ y ∷ ys) i) (after_next k) (rising k (omega arith))
+
+first_below : (x y : ℕ) (ys : List ℕ) → IsStrictlyIncreasing (x ∷ y ∷ ys) → x < y
+first_below x y ys rising = rising 0 (omega arith)
+
+others_increase : (x : ℕ) (xs : List ℕ) → IsStrictlyIncreasing (x ∷ xs) → IsStrictlyIncreasing xs
+others_increase x xs rising = λ k within. subst (λ (i : ℕ). slice_index xs k < slice_index (x ∷ xs) i) (sym (after_next k)) (rising (suc k) (omega arith))
+
+-- a stop greater than a number, among those that rise from it
+rising_from : (low : ℕ) (stop : Stop) (stops : List Stop) → low < stop.mark → stop_of stops stop.mark ≡ None → IsStrictlyIncreasing (low ∷ marks stops)
+    → IsStrictlyIncreasing (low ∷ marks (with_stop stop stops))
+rising_from low stop [] below none rising = front_increases low stop.mark [] below (one_increases stop.mark)
+rising_from low stop (first ∷ others) below none rising =
+    let later = others_increase low (first.mark ∷ marks others) rising in
+    on (nat_lt first.mark stop.mark) refl (first_below low first.mark (marks others) rising) later
+    (λ less. rising_from first.mark stop others less (none_here (first.mark == stop.mark) first (stop_of others stop.mark) none).1 later)
   where
-    on : (t : Bool) → nat_lt first.mark stop.mark ≡ t → (first.mark < stop.mark → Rises first.mark (with_stop stop others)) → AreRising (cond t (first ∷ with_stop stop others) (stop ∷ first ∷ others))
+    on : (t : Bool) → nat_lt first.mark stop.mark ≡ t → low < first.mark → IsStrictlyIncreasing (first.mark ∷ marks others)
+        → (first.mark < stop.mark → IsStrictlyIncreasing (first.mark ∷ marks (with_stop stop others)))
+        → IsStrictlyIncreasing (low ∷ marks (cond t (first ∷ with_stop stop others) (stop ∷ first ∷ others)))
+    on true is low_below later more = front_increases low first.mark (marks (with_stop stop others)) low_below (more (grind (arith, nat_tests)))
+    on false is low_below later more =
+        front_increases low stop.mark (first.mark ∷ marks others) below (front_increases stop.mark first.mark (marks others) (apart stop first others none is) later)
+
+rising_more : (stop : Stop) (stops : List Stop) → stop_of stops stop.mark ≡ None → IsStrictlyIncreasing (marks stops) → IsStrictlyIncreasing (marks (with_stop stop stops))
+rising_more stop [] none rising = one_increases stop.mark
+rising_more stop (first ∷ others) none rising =
+    on (nat_lt first.mark stop.mark) refl (λ less. rising_from first.mark stop others less (none_here (first.mark == stop.mark) first (stop_of others stop.mark) none).1 rising)
+  where
+    on : (t : Bool) → nat_lt first.mark stop.mark ≡ t → (first.mark < stop.mark → IsStrictlyIncreasing (first.mark ∷ marks (with_stop stop others)))
+        → IsStrictlyIncreasing (marks (cond t (first ∷ with_stop stop others) (stop ∷ first ∷ others)))
     on true is more = more (grind (arith, nat_tests))
-    on false is more = (apart stop first others none is, rising)
+    on false is more = front_increases stop.mark first.mark (marks others) (apart stop first others none is) rising
 
 -- ---- the marks among the first nodes
 
 pub no_stops : (f : Program) (ops : List Op) → AreStops f ops 0 []
-no_stops f ops = record { each = λ node mark next below is. absurd (omega arith); only = λ mark stop found. cc; rising = tt }
+no_stops f ops = record { each = λ node mark next below is. absurd (omega arith); only = λ mark stop found. cc; rising = λ k below. absurd (omega arith) }
 
 module _ (f : Program) (ops : List Op) (count : ℕ) (stops : List Stop) (are : AreStops f ops count stops) where
   pub other_op : ((mark next : ℕ) → ¬ Marks ops count mark next) → AreStops f ops (count + 1) stops

@@ -1,9 +1,8 @@
 -- The graph of a function: what is built does what the function does, and is well formed.
 use Rattle.std.proofs.lemmas.Option.{slice_get_within}
-use Rattle.std.proofs.Common.{◌≡◌, ℕ, zero, suc, ◌+◌, ◌<◌, ◌^◌, Bool, false, inl, inr, List, [], ◌∷◌, length, map, All, Option, Some, None, IsSome, ℤ, pos, refl, sym, ap, ◌∙◌, subst, arith}
-use Rattle.std.specs.Prelude.{filter_map, slice_get, slice_index}
+use Rattle.std.proofs.Common.{◌≡◌, ℕ, zero, suc, ◌<◌, ◌^◌, Bool, false, inl, inr, List, [], ◌∷◌, length, All, Option, Some, None, IsSome, ℤ, pos, refl, sym, ap, ◌∙◌, subst, arith}
+use Rattle.std.specs.Prelude.{filter_map, slice_get}
 use Rattle.std.specs.Option.{option_map}
-use Rattle.std.specs.List.Sorted.{IsStrictlyIncreasing}
 use Rattle.c_ast.specs.declared.expr.Expr.{Expr, Num, fold_out-Expr, map-Expr}
 use Rattle.c_ast.specs.declared.expr.Expr.TheOpen.{Expr-F}
 use Rattle.c_ast.specs.declared.expr.Expr.TheVariants.{outs-Num}
@@ -36,7 +35,7 @@ use Rattle.flow_graph.specs.Run.{values_of, seen_from}
 use Rattle.flow_graph.specs.WellFormed.{Fits, IsFlowGraph}
 use Rattle.flow_graph.specs.Built.{IsGraphOf}
 use Rattle.flow_graph.specs.Layout.{Slots, slots_of, Layout, layout, added, lay}
-use Rattle.flow_graph.specs.Stops.{Rises, AreRising, Marks, MarksOf, AreStops}
+use Rattle.flow_graph.specs.Stops.{Marks, MarksOf, AreStops}
 use Rattle.flow_graph.proofs.Growing.{lay_grows, slots_of-length}
 use Rattle.flow_graph.proofs.Laid.{Table, TestLaid, Laid, LoopLaid, IsEnd, WorkLaid, Extends, laid_more, grows_extends, table_of, lay_laid}
 use Rattle.flow_graph.proofs.Closing.{opens, closed_table, closed_length}
@@ -103,20 +102,6 @@ module _ (at : Table) where
   position (tree.Mark j c) s w n m b t k v h g (inr p) = position c s w h.0 m b t k v h.2 g p
   position (tree.Block x c) s w n m b t k v h g (inl p) = position x s (Run s c ∷ w) n h.0 b t k v h.1 (m, h.2, g) p
   position (tree.Block x c) s w n m b t k v h g (inr p) = position c s w h.0 m b t k v h.2 g p
-
--- ---- the order of the marks
-
-rises_on : (stop : Stop) (stops : List Stop) → Rises stop.mark stops → (k : ℕ) → suc k < length (map (λ (s : Stop). s.mark) (stop ∷ stops))
-    → slice_index (map (λ (s : Stop). s.mark) (stop ∷ stops)) k < slice_index (map (λ (s : Stop). s.mark) (stop ∷ stops)) (suc k)
-rises_on stop [] rises k below = absurd (omega arith)
-rises_on stop (next ∷ stops) rises zero below = rises.0
-rises_on stop (next ∷ stops) rises (suc k) below = rises_on next stops rises.1 k (omega arith)
-
-increasing : (stops : List Stop) → AreRising stops → IsStrictlyIncreasing (map (λ (stop : Stop). stop.mark) stops)
-increasing [] rising = λ k below. absurd (omega arith)
-increasing (stop ∷ stops) rising = λ k below.
-    let next : k + 1 ≡ suc k = omega arith in
-    subst (λ (i : ℕ). slice_index (map (λ (s : Stop). s.mark) (stop ∷ stops)) k < slice_index (map (λ (s : Stop). s.mark) (stop ∷ stops)) i) (sym next) (rises_on stop stops rising k (omega arith))
 
 -- ---- what the code has built
 
@@ -206,7 +191,7 @@ module _ (f : Function) (is : IsFunction f) (ops : List Op) (entry : ℕ) (out :
       entry = omega (arith, node_is, fits.within, count);
       fit = fit;
       marks = λ node mark next here. are.each node mark next (within_ops node mark next here) here;
-      rising = increasing stops are.rising;
+      rising = are.rising;
       afters = afters;
     }
 

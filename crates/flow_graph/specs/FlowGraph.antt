@@ -1,5 +1,5 @@
 -- The parts of a flow graph, and what stands at its places.
-use Rattle.std.specs.Prelude.{ℕ, ◌==◌, List, [], ◌∷◌, ◌++◌, Option, Some, None, IsSome, map, find, slice_get}
+use Rattle.std.specs.Prelude.{ℕ, ◌==◌, List, [], ◌∷◌, ◌++◌, Option, Some, None, IsSome, map, filter_map, find, slice_get}
 use Rattle.std.specs.Option.{option_map}
 use Rattle.c_ast.specs.declared.place.Place.{Place}
 use Rattle.c_ast.specs.declared.place.Place.TheVariants as place
@@ -48,6 +48,16 @@ variables_at graph place.Exit = []
 -- the entry, the marks, and the exit
 abbrev pub places_of : FlowGraph → List Place
 places_of graph = place.Entry ∷ map (λ stop. place.Mark stop.mark) graph.stops ++ place.Exit ∷ []
+
+-- the mark, where the place is one
+abbrev pub mark_of : Place → Option ℕ
+mark_of place.Entry = None
+mark_of (place.Mark mark) = Some mark
+mark_of place.Exit = None
+
+-- the marks among places, in their order
+abbrev pub marks_among : List Place → List ℕ
+marks_among places = filter_map mark_of places
 
 -- The place is one of the graph's, at which a run goes on: the entry or a mark.
 abbrev pub GoesOnAt : FlowGraph → Place → Type 0

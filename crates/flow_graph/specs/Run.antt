@@ -56,6 +56,7 @@ pub record IsGraphTrace (graph : FlowGraph) (inputs : List ℤ) (trace : Trace) 
   pub ran : seen_from always None with_event no_event graph steps 0 graph.entry (spread (first_variables graph.params) graph.vars inputs) ≡ Some trace
 
 -- From the place `l` with the values `e` in scope and 0 elsewhere, the next place that is met is `l'`, with the values `e'`.
+-- `e` may have any length: a variable in scope without a value is 0, and values beyond the variables in scope are left out.
 pub record IsGraphSegment (graph : FlowGraph) (l : Place) (e : List ℤ) (l' : Place) (e' : List ℤ) : Type 0 where
   pub from : GoesOnAt graph l
   pub steps : ℕ

@@ -1,5 +1,6 @@
 -- How the marks of a graph are listed, by rising number.
-use Rattle.std.specs.Prelude.{◌≡◌, ℕ, ◌<◌, if◌then◌else◌, nat_lt, List, [], ◌∷◌, Some, slice_get}
+use Rattle.std.specs.Prelude.{◌≡◌, ℕ, ◌<◌, if◌then◌else◌, nat_lt, List, [], ◌∷◌, map, Some, slice_get}
+use Rattle.std.specs.List.Sorted.{IsStrictlyIncreasing}
 use Rattle.std.specs.Option.{option_map}
 use Rattle.c_ast.specs.declared.place.Place.TheVariants as place
 use Rattle.c_ast.specs.Tree.{Program}
@@ -15,15 +16,6 @@ abbrev pub with_stop : Stop → List Stop → List Stop
 with_stop stop [] = stop ∷ []
 with_stop stop (first ∷ others) = if nat_lt first.mark stop.mark then first ∷ with_stop stop others else stop ∷ first ∷ others
 
-abbrev pub Rises : ℕ → List Stop → Type 0
-Rises low [] = Unit {0}
-Rises low (stop ∷ stops) = (low < stop.mark) × Rises stop.mark stops
-
--- each mark is greater than the one before it
-abbrev pub AreRising : List Stop → Type 0
-AreRising [] = Unit {0}
-AreRising (stop ∷ stops) = Rises stop.mark stops
-
 -- The node passes the mark, and the other comes next.
 abbrev pub Marks : List Op → ℕ → ℕ → ℕ → Type 0
 Marks ops node mark next = option_map operation_of (slice_get ops node) ≡ Some (Mark mark next)
@@ -37,4 +29,4 @@ pub record MarksOf (f : Program) (ops : List Op) : Type 0 where
 pub record AreStops (f : Program) (ops : List Op) (count : ℕ) (stops : List Stop) : Type 0 where
   pub each : (node mark next : ℕ) → node < count → Marks ops node mark next → IsStop stops mark next
   pub only : (mark : ℕ) (stop : Stop) → stop_of stops mark ≡ Some stop → (node : ℕ) × (node < count) × Marks ops node mark stop.next × AreInScope f (place.Mark mark) stop.scope
-  pub rising : AreRising stops
+  pub rising : IsStrictlyIncreasing (map (λ stop. stop.mark) stops)

@@ -10,8 +10,8 @@ abbrev pub IsMark : Option Operation → Type 0
 IsMark (Some (Mark mark next)) = Unit {0}
 IsMark _ = ⊥
 
--- An edge leads to one of `count` nodes: to a mark, or to a node with a lower number. So each cycle passes a mark, and a
--- run from a node on meets the next place within as many steps as the node's number says.
+-- An edge leads to one of `count` nodes: to a mark, or to a node with a lower number. So each cycle passes a mark, and
+-- between two marks a run is at ever lower nodes.
 abbrev pub Leads : (ℕ → Option Operation) → ℕ → ℕ → ℕ → Type 0
 Leads at count node next = (next < count) × ((next < node) ⊎ IsMark (at next))
 
@@ -29,6 +29,8 @@ pub record IsStop (stops : List Stop) (mark next : ℕ) : Type 0 where
   pub found : stop_of stops mark ≡ Some stop
   pub next_is : stop.next ≡ next
 
+-- The graph has at most 64 variables, the parameters among them, and fewer than 2^32 nodes, each of which fits. Its marks
+-- are listed by rising number, each with the node that comes next and with variables of the graph.
 pub record IsFlowGraph (graph : FlowGraph) : Type 0 where
   pub few : graph.vars ≤ 64
   pub parameters : graph.params ≤ graph.vars

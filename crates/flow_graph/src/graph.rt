@@ -1,5 +1,6 @@
 //! The graph and its readers.
 ghost use Rattle.std.specs.Prelude.{◌≡◌, ◌<◌, length, slice_get, Some, All, IfOk};
+ghost use Rattle.std.specs.List.Sorted.{IsStrictlyIncreasing};
 ghost use Rattle.std.specs.Option.{option_copied};
 
 use crate::Op;
@@ -37,7 +38,7 @@ impl Model for Graph {
 }
 
 impl Graph {
-    ghost use Rattle.flow_graph.specs.FlowGraph.{FlowGraph, stop_of, node_after, variables_at, places_of, GoesOnAt, HasPlace};
+    ghost use Rattle.flow_graph.specs.FlowGraph.{FlowGraph, stop_of, node_after, variables_at, places_of, marks_among, GoesOnAt, HasPlace};
     ghost use Rattle.flow_graph.specs.WellFormed.{IsFlowGraph};
 
     /// The number of the function's parameters.
@@ -92,6 +93,7 @@ impl Graph {
     /// The entry, the marks by rising number, and the exit.
     pub fn places(&self, alloc: Global) -> Result<Vec<Place>, AllocError>
         ensures places { IfOk result (λ places. places.items ≡ places_of self.now) }
+        ensures rising { IfOk result (λ places. IsStrictlyIncreasing (marks_among places.items)) }
         ensures each { IfOk result (λ places. All (HasPlace self.now) places.items) }
     {
         let mut places = Vec::new(alloc);

@@ -1,8 +1,9 @@
 //! The flow graph of a function: numbered nodes, each with what it does and the nodes that may come next.
 //!
 //! `build` turns a checked function into its graph. `specs/Run.antt` says what a graph does, a step at a time, and
-//! `specs/Built.antt` that it does what the steps of the source do: the same marks with the same values, the same
-//! expressions evaluated in the same order, and the same result, from every place and in both directions.
+//! `specs/Built.antt` that it does what the steps of the source do: the same marks with the same values and the same
+//! result, from every place and in both directions; and from the entry it is judged alike: it returns, passes one mark
+//! too many, or meets a wide value.
 #![tactic(auto)]
 
 mod builder;

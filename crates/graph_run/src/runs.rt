@@ -9,8 +9,10 @@ use flow_graph::Graph;
 use sqlite_items::Items;
 use std::alloc::Global;
 
-/// The trace of the graph's run, where the parameters have these values, each below 2^100 in size. `marks` is how many
-/// marks the run may pass; nothing else bounds it, since each cycle of the graph passes a mark.
+/// The trace of the graph's run, where the parameters have these values: one for each parameter, in their order, each
+/// below 2^100 in size. The run may pass `marks` marks, and nothing else bounds it, since each cycle of the graph passes
+/// a mark. It answers `NotEnded` at one mark more, `Wide` where a part of an evaluated expression is 2^100 or more in
+/// size, whichever is met first, and `Memory` at any time.
 pub fn run(alloc: Global, graph: &Graph, input: &[i128], marks: u32) -> Result<Trace, Skip>
     requires arity { length input.now ≡ graph.now.params }
     requires narrow { AreNarrow input.now }

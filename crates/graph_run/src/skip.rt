@@ -11,7 +11,7 @@ pub enum Skip {
     NotEnded,
     /// A part of an evaluated expression, also one that C would skip, whose value is 2^100 or more in size.
     Wide,
-    /// There was no memory for the events.
+    /// There was no memory for the environment or the events.
     Memory,
 }
 

@@ -7,6 +7,7 @@ use Rattle.std.proofs.lemmas.List.{length-map}
 use Rattle.std.proofs.lemmas.List.Elements.{All-weaker}
 use Rattle.std.proofs.lemmas.List.FromFn.{length-map-range_with_len}
 use Rattle.std.proofs.Common.{◌∙◌}
+use Rattle.rand_pcg.specs.Lcg.{Lcg}
 use Rattle.c_ast.specs.Bounds.{Bounds}
 use Rattle.c_ast.specs.Narrow.{is_narrow}
 use Rattle.graph_run.specs.Answers.{AreNarrow}
@@ -14,12 +15,18 @@ use Rattle.trace_pair.specs.Inputs.{grid_size, grid_value, word_value, words, ge
 use Rattle.trace_pair.proofs.Grid.{grid_is_near}
 use Rattle.trace_pair.proofs.Words.{length-words, words_are_near}
 
+pub length-grid : (index arity : ℕ) → length (map (grid_value index) (range_with_len 0 arity)) ≡ arity
+length-grid index arity = length-map-range_with_len (grid_value index) 0 arity
+
+pub length-later : (arity : ℕ) (generator : Lcg) → length (map word_value (words arity generator)) ≡ arity
+length-later arity generator = length-map (words arity generator) word_value ∙ length-words arity generator
+
 pub length_of_input : (settings : Bounds) (index arity : ℕ) → length (input_of settings index arity) ≡ arity
 length_of_input settings index arity = on (nat_lt index (grid_size arity))
   where
     on : (early : Bool) → length (cond early (map (grid_value index) (range_with_len 0 arity)) (map word_value (words arity (generator_of settings.seed index)))) ≡ arity
-    on true = length-map-range_with_len (grid_value index) 0 arity
-    on false = length-map (words arity (generator_of settings.seed index)) word_value ∙ length-words arity (generator_of settings.seed index)
+    on true = length-grid index arity
+    on false = length-later arity (generator_of settings.seed index)
 
 pub near_input_of : (settings : Bounds) (index arity : ℕ) → All IsNear (input_of settings index arity)
 near_input_of settings index arity = on (nat_lt index (grid_size arity))

@@ -1,5 +1,5 @@
 //! The inputs of samples.
-ghost use Rattle.std.specs.Prelude.{◌≡◌, ◌<◌, ◌≤◌, ◌^◌, map, pos, slice_index_or, All, IfOk};
+ghost use Rattle.std.specs.Prelude.{◌≡◌, ◌<◌, ◌≤◌, ◌^◌, length, map, pos, slice_index_or, All, IfOk};
 ghost use Rattle.std.specs.List.{range_with_len};
 ghost use Rattle.trace_pair.specs.Inputs.{grid, grid_value, word_value, words, generator_of, input_of, IsNear};
 
@@ -71,7 +71,7 @@ fn later_input(alloc: Global, seed: u64, index: u32, arity: u32) -> Result<Vec<i
     Ok(values)
 }
 
-/// A value for each of `arity` parameters, from -20 to 20. The first 5, 25 or 125 indexes, by the number of parameters,
+/// As many values as `arity`, one for each parameter in their order, each from -20 to 20; or want of memory. The first 5, 25 or 125 indexes, by the number of parameters,
 /// try all choices of 0, 1, 2, -1 and 7 for the first three, the first one changing fastest, with 0 for all others.
 /// Later ones take words of the generator with the settings' seed, on a stream of the index's own.
 pub fn input(
@@ -81,6 +81,7 @@ pub fn input(
     arity: u32,
 ) -> Result<Vec<i128>, AllocError>
     ensures values { IfOk result (λ values. values.items ≡ input_of settings.now index arity) }
+    ensures arity { IfOk result (λ values. length values.items ≡ arity) }
     ensures near { IfOk result (λ values. All IsNear values.items) }
 {
     if index < power_of_five(arity.min(3)) {

@@ -34,7 +34,9 @@ fn trace_of(
 /// Both functions of a subject as graphs, which are built once for all samples.
 #[derive(Debug, Drop)]
 pub struct Graphs {
+    /// Side A's.
     pub first: Graph,
+    /// Side B's.
     pub second: Graph,
 }
 
@@ -52,7 +54,6 @@ impl Graphs {
 /// The runs of both functions on the sample's input, where both return after at most as many marks as the settings say
 /// and with narrow values. `graphs` are those of the subject, and `index` is below the settings' number of samples. Side
 /// A is judged first.
-#[tactic(auto, using(crate::proofs::Inputting::length_of_input))]
 pub fn pair_on(
     alloc: Global,
     subject: &Subject,
