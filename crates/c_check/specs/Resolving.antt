@@ -185,6 +185,11 @@ function_at func = and_then (parameters_at nothing_known func.params) (λ behind
 pub record Fails {A : Type 0} (answer : Result A CheckFault) (first : CheckFault) : Type 0 where
   pub by : ¬ (first ≡ fault.Memory) → answer ≡ Err first
 
+-- What a function returned, seen by view, is the answer, or memory ran out.
+abbrev pub Gives : {X Y : Type 0} → (X → Y) → Result X CheckFault → Result Y CheckFault → Type 0
+Gives view (Ok x) answer = answer ≡ Ok (view x)
+Gives view (Err first) answer = Fails answer first
+
 -- what stands behind statements of the program
 abbrev pub joined_to : List Stmt → Statements → Statements
 joined_to [] others = others

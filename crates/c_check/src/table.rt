@@ -58,7 +58,8 @@ impl Model for Table {
 /// What the name stands for is again what its newest variable hides.
 fn give_back(newest: &mut HashMap<String, Slot>, name: &str, hidden: Option<Slot>)
     requires { IsSome (get_by_text newest.old name.now) }
-    ensures { (other : List ℕ) → get_by_text newest.new other ≡ update bytes_eq (get_by_text newest.old) name.now hidden other }
+    ensures { (other : List ℕ) → get_by_text newest.new other
+        ≡ update bytes_eq (get_by_text newest.old) name.now hidden other }
 {
     match hidden {
         Some(hidden) => {
@@ -119,7 +120,8 @@ impl Table {
         name: &Name,
         number: u32,
     ) -> Result<(), CheckFault>
-        ensures declared { OnOk result (self.new ≡ with_binding (record { name = name.now; number = number }) self.old) }
+        ensures declared { OnOk result
+            (self.new ≡ with_binding (record { name = name.now; number = number }) self.old) }
         ensures memory { IfErr result (λ first. first ≡ fault.Memory) }
     {
         let slot = Slot {

@@ -1,11 +1,11 @@
 //! The function of a file, or why it has none.
-ghost use Rattle.std.specs.Prelude.{◌≡◌, [], ◌∷◌, All, map, Ok, MatchResult, IfOk, IfErr, IfSome};
+ghost use Rattle.std.specs.Prelude.{◌≡◌, [], ◌∷◌, All, map, MatchResult, IfOk, IfErr, IfSome};
 ghost use Rattle.c_ast.specs.RawShape.{IsShaped};
 ghost use Rattle.c_ast.specs.RawView.{raw_function_of};
 ghost use Rattle.c_ast.specs.View.{statements_of};
 ghost use Rattle.c_check.specs.declared.fault.CheckFault.TheVariants as fault;
 ghost use Rattle.c_check.specs.Checked.{IsChecked, IsCheckFault, Checks};
-ghost use Rattle.c_check.specs.Resolving.{function_at, parameters_at, HasParts, Fails};
+ghost use Rattle.c_check.specs.Resolving.{function_at, parameters_at, HasParts, Fails, Gives};
 
 use crate::CheckFault;
 use crate::resolver::Resolver;
@@ -17,10 +17,9 @@ use std::alloc::Global;
 /// A function may have so many variables.
 const VARIABLES: usize = 64;
 
+/// Declares the parameters.
 fn parameters(alloc: Global, at: &mut Resolver, params: &[Var]) -> Result<(), CheckFault>
-    ensures { MatchResult result
-        (λ _. parameters_at at.old params.now ≡ Ok at.new)
-        (Fails (parameters_at at.old params.now)) }
+    ensures { Gives (λ _. at.new) result (parameters_at at.old params.now) }
 {
     for param in params {
         at.declare(alloc, param)?;
@@ -35,9 +34,11 @@ struct Parts {
     body: Items<Stmt>,
 }
 
+/// Goes over a function: its parameters, then its body.
 fn resolve(alloc: Global, func: &RawFunc) -> Result<Parts, CheckFault>
     ensures { MatchResult result
-        (λ found. HasParts (function_at (raw_function_of func.now)) found.vars (statements_of found.body))
+        (λ found. HasParts (function_at (raw_function_of func.now))
+            found.vars (statements_of found.body))
         (Fails (function_at (raw_function_of func.now))) }
 {
     let mut at = Resolver::new(alloc);
@@ -74,6 +75,7 @@ fn many(count: usize) -> Option<u32>
     }
 }
 
+/// The function of a file that holds this one alone.
 fn check_function(alloc: Global, func: &RawFunc) -> Result<Func, CheckFault>
     requires shaped { IsShaped (raw_function_of func.now) }
     ensures { MatchResult result

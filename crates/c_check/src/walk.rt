@@ -1,5 +1,5 @@
 //! Goes over statements in the order of the source. The first fault ends it.
-ghost use Rattle.std.specs.Prelude.{◌≡◌, ◌<◌, ◌+◌, ◌^◌, Ok, Bool, MatchResult, IfErr, OnOk, option_map};
+ghost use Rattle.std.specs.Prelude.{◌≡◌, ◌<◌, ◌+◌, ◌^◌, Bool, MatchResult, IfOk, IfErr, OnOk, option_map};
 ghost use Rattle.c_ast.specs.RawTree as raw;
 ghost use Rattle.c_ast.specs.RawView.{raw_expression_of, raw_condition_of, raw_declared_of, raw_one, raw_optional, raw_put_in_front, raw_statements_of};
 ghost use Rattle.c_ast.specs.declared.stmt.Stmt.{Loop};
@@ -7,7 +7,7 @@ ghost use Rattle.c_ast.specs.View.{expression_of, statements_of};
 ghost use Rattle.c_check.specs.declared.fault.CheckFault.TheVariants as fault;
 ghost use Rattle.c_check.specs.Resolves.{first_automatic, begins_with_mark, loop_mark, named_mark};
 ghost use Rattle.c_check.specs.Table.{scope_of};
-ghost use Rattle.c_check.specs.Resolving.{variable_in, expression_in, initial_value, condition_at, condition_option_at, with_condition, made, closed, entered, statements_at, Fails, Puts, Pushes, FailsIn, Declares, FailsDeclaring};
+ghost use Rattle.c_check.specs.Resolving.{variable_in, expression_in, initial_value, condition_at, condition_option_at, with_condition, made, closed, entered, statements_at, Gives, Puts, Pushes, FailsIn, Declares, FailsDeclaring};
 ghost use Rattle.std.specs.Prelude.{[], ◌∷◌, ◌++◌, Some, None, map, true};
 ghost use Rattle.c_check.specs.Occurrences.{Jump};
 ghost use Rattle.c_check.specs.Faults.{fault_of};
@@ -20,10 +20,9 @@ use c_ast::{Expr, Name, RawCond, RawDeclarator, RawExpr, RawStmt, Stmt, Var};
 use sqlite_items::{Boxed, Items};
 use std::alloc::Global;
 
+/// The number of the variable that a name stands for.
 fn variable(table: &Table, name: &Name, line: u32) -> Result<u32, CheckFault>
-    ensures { MatchResult result
-        (λ number. variable_in (scope_of table.now) name.now line ≡ Ok number)
-        (Fails (variable_in (scope_of table.now) name.now line)) }
+    ensures { Gives (λ number. number) result (variable_in (scope_of table.now) name.now line) }
 {
     match table.number_of(name) {
         Some(number) => Ok(number),
@@ -34,10 +33,10 @@ fn variable(table: &Table, name: &Name, line: u32) -> Result<u32, CheckFault>
     }
 }
 
+/// The expression, with variables in place of names.
 fn expression(alloc: Global, table: &Table, expr: &RawExpr) -> Result<Expr, CheckFault>
-    ensures { MatchResult result
-        (λ value. expression_in (scope_of table.now) (raw_expression_of expr.now) ≡ Ok (expression_of value))
-        (Fails (expression_in (scope_of table.now) (raw_expression_of expr.now))) }
+    ensures { Gives expression_of result
+        (expression_in (scope_of table.now) (raw_expression_of expr.now)) }
 {
     match expr {
         RawExpr::Num(constant) => Ok(Expr::Num(*constant)),
@@ -73,10 +72,11 @@ struct LoopTest {
     cond: Expr,
 }
 
+/// A condition, behind the mark that it names.
 fn condition(alloc: Global, at: &mut Resolver, raw: &RawCond) -> Result<LoopTest, CheckFault>
-    ensures { MatchResult result
-        (λ found. (condition_at at.old (raw_condition_of raw.now) ≡ Ok (with_condition at.new (expression_of found.cond))) × (found.mark ≡ raw.now.mark))
-        (Fails (condition_at at.old (raw_condition_of raw.now))) }
+    ensures made { Gives (λ found. with_condition at.new (expression_of found.cond)) result
+        (condition_at at.old (raw_condition_of raw.now)) }
+    ensures mark { IfOk result (λ found. found.mark ≡ raw.now.mark) }
 {
     match raw.mark {
         None => {
@@ -94,14 +94,16 @@ fn condition(alloc: Global, at: &mut Resolver, raw: &RawCond) -> Result<LoopTest
     }
 }
 
+/// The condition of a `for`, which is 1 where none stands.
 fn condition_option(
     alloc: Global,
     at: &mut Resolver,
     raw: &Option<RawCond>,
 ) -> Result<LoopTest, CheckFault>
-    ensures { MatchResult result
-        (λ found. (condition_option_at at.old (option_map raw_condition_of raw.now) ≡ Ok (with_condition at.new (expression_of found.cond))) × (found.mark ≡ named_mark (option_map raw_condition_of raw.now)))
-        (Fails (condition_option_at at.old (option_map raw_condition_of raw.now))) }
+    ensures made { Gives (λ found. with_condition at.new (expression_of found.cond)) result
+        (condition_option_at at.old (option_map raw_condition_of raw.now)) }
+    ensures mark { IfOk result
+        (λ found. found.mark ≡ named_mark (option_map raw_condition_of raw.now)) }
 {
     match raw {
         None => Ok(LoopTest {
@@ -115,14 +117,14 @@ fn condition_option(
     }
 }
 
+/// The value of an initialiser, where there is one.
 fn initial_value(
     alloc: Global,
     table: &Table,
     raw: &Option<RawExpr>,
 ) -> Result<Option<Expr>, CheckFault>
-    ensures { MatchResult result
-        (λ value. initial_value (scope_of table.now) (option_map raw_expression_of raw.now) ≡ Ok (option_map expression_of value))
-        (Fails (initial_value (scope_of table.now) (option_map raw_expression_of raw.now))) }
+    ensures { Gives (option_map expression_of) result
+        (initial_value (scope_of table.now) (option_map raw_expression_of raw.now)) }
 {
     match raw {
         None => Ok(None),
@@ -199,6 +201,7 @@ fn looped(mark: Option<u32>, cond: Expr, body: Items<Stmt>, step: Items<Stmt>) -
     }
 }
 
+/// Declares a variable, sets it to 0, and then to its initial value.
 fn declarator(
     alloc: Global,
     at: &mut Resolver,
@@ -218,6 +221,7 @@ fn declarator(
     Ok(())
 }
 
+/// Goes over the declarators of a declaration.
 fn declarators(
     alloc: Global,
     at: &mut Resolver,
@@ -225,8 +229,11 @@ fn declarators(
     made: &mut Items<Stmt>,
 ) -> Result<(), CheckFault>
     ensures { MatchResult result
-        (λ _. (in_loop : Bool) → Pushes in_loop (raw.Declare (map raw_declared_of declarators.now)) at.old at.new made.old made.new)
-        (λ first. (in_loop : Bool) → FailsIn in_loop (raw.Declare (map raw_declared_of declarators.now)) at.old first) }
+        (λ _. (in_loop : Bool) →
+            Pushes in_loop (raw.Declare (map raw_declared_of declarators.now))
+            at.old at.new made.old made.new)
+        (λ first. (in_loop : Bool) →
+            FailsIn in_loop (raw.Declare (map raw_declared_of declarators.now)) at.old first) }
 {
     for declared in declarators {
         declarator(alloc, at, declared, made)?;
@@ -234,6 +241,7 @@ fn declarators(
     Ok(())
 }
 
+/// Sets the variable that the name stands for.
 fn assignment(
     alloc: Global,
     at: &Resolver,
@@ -242,8 +250,11 @@ fn assignment(
     value: &RawExpr,
 ) -> Result<Stmt, CheckFault>
     ensures { MatchResult result
-        (λ stmt. (in_loop : Bool) → Puts in_loop (raw.Assign name.now line (raw_expression_of value.now)) at.now at.now stmt)
-        (λ first. (in_loop : Bool) → FailsIn in_loop (raw.Assign name.now line (raw_expression_of value.now)) at.now first) }
+        (λ stmt. (in_loop : Bool) →
+            Puts in_loop (raw.Assign name.now line (raw_expression_of value.now))
+            at.now at.now stmt)
+        (λ first. (in_loop : Bool) →
+            FailsIn in_loop (raw.Assign name.now line (raw_expression_of value.now)) at.now first) }
 {
     let number = variable(&at.table, name, line)?;
     let value = expression(alloc, &at.table, value)?;
@@ -258,9 +269,8 @@ pub(crate) fn items(
     in_loop: bool,
     stmts: &[RawStmt],
 ) -> Result<Items<Stmt>, CheckFault>
-    ensures { MatchResult result
-        (λ made_of. statements_at at.old in_loop (raw_statements_of stmts.now) ≡ Ok (made at.new (statements_of made_of)))
-        (Fails (statements_at at.old in_loop (raw_statements_of stmts.now))) }
+    ensures { Gives (λ found. made at.new (statements_of found)) result
+        (statements_at at.old in_loop (raw_statements_of stmts.now)) }
 {
     let mut made = Items::new(alloc);
     for stmt in stmts {
@@ -277,9 +287,8 @@ fn one(
     in_loop: bool,
     stmt: &RawStmt,
 ) -> Result<Items<Stmt>, CheckFault>
-    ensures { MatchResult result
-        (λ made_of. statements_at at.old in_loop (raw_one (raw_put_in_front stmt.now)) ≡ Ok (made at.new (statements_of made_of)))
-        (Fails (statements_at at.old in_loop (raw_one (raw_put_in_front stmt.now)))) }
+    ensures { Gives (λ found. made at.new (statements_of found)) result
+        (statements_at at.old in_loop (raw_one (raw_put_in_front stmt.now))) }
 {
     let mut made = Items::new(alloc);
     item(alloc, at, in_loop, stmt, &mut made)?;
@@ -294,9 +303,8 @@ fn one_or_none(
     in_loop: bool,
     stmt: &Option<Boxed<RawStmt>>,
 ) -> Result<Items<Stmt>, CheckFault>
-    ensures { MatchResult result
-        (λ made_of. statements_at at.old in_loop (raw_optional (option_map raw_put_in_front stmt.now)) ≡ Ok (made at.new (statements_of made_of)))
-        (Fails (statements_at at.old in_loop (raw_optional (option_map raw_put_in_front stmt.now)))) }
+    ensures { Gives (λ found. made at.new (statements_of found)) result
+        (statements_at at.old in_loop (raw_optional (option_map raw_put_in_front stmt.now))) }
 {
     match stmt {
         None => Ok(Items::new(alloc)),
@@ -315,9 +323,9 @@ fn block(
     in_loop: bool,
     stmt: &RawStmt,
 ) -> Result<Items<Stmt>, CheckFault>
-    ensures { MatchResult result
-        (λ made_of. closed (statements_at (entered at.old) in_loop (raw_one (raw_put_in_front stmt.now))) ≡ Ok (made at.new (statements_of made_of)))
-        (Fails (closed (statements_at (entered at.old) in_loop (raw_one (raw_put_in_front stmt.now))))) }
+    ensures { Gives (λ found. made at.new (statements_of found)) result
+        (closed (statements_at (entered at.old) in_loop
+            (raw_one (raw_put_in_front stmt.now)))) }
 {
     at.enter(alloc)?;
     let made = one(alloc, at, in_loop, stmt)?;
@@ -333,9 +341,9 @@ fn block_or_none(
     in_loop: bool,
     stmt: &Option<Boxed<RawStmt>>,
 ) -> Result<Items<Stmt>, CheckFault>
-    ensures { MatchResult result
-        (λ made_of. closed (statements_at (entered at.old) in_loop (raw_optional (option_map raw_put_in_front stmt.now))) ≡ Ok (made at.new (statements_of made_of)))
-        (Fails (closed (statements_at (entered at.old) in_loop (raw_optional (option_map raw_put_in_front stmt.now))))) }
+    ensures { Gives (λ found. made at.new (statements_of found)) result
+        (closed (statements_at (entered at.old) in_loop
+            (raw_optional (option_map raw_put_in_front stmt.now)))) }
 {
     at.enter(alloc)?;
     let made = one_or_none(alloc, at, in_loop, stmt)?;
@@ -343,6 +351,7 @@ fn block_or_none(
     Ok(made)
 }
 
+/// A block that is a statement.
 #[cycle(walk)]
 fn compound(
     alloc: Global,
@@ -360,6 +369,7 @@ fn compound(
     Ok(Stmt::Block(made))
 }
 
+/// A loop that tests first: its condition stands before its body in the source.
 #[cycle(walk)]
 fn while_loop(
     alloc: Global,
@@ -369,8 +379,12 @@ fn while_loop(
     body: &RawStmt,
 ) -> Result<Stmt, CheckFault>
     ensures { MatchResult result
-        (λ stmt. Puts in_loop (raw.While (raw_condition_of cond.now) (raw_one (raw_put_in_front body.now))) at.old at.new stmt)
-        (FailsIn in_loop (raw.While (raw_condition_of cond.now) (raw_one (raw_put_in_front body.now))) at.old) }
+        (λ stmt. Puts in_loop
+            (raw.While (raw_condition_of cond.now) (raw_one (raw_put_in_front body.now)))
+            at.old at.new stmt)
+        (FailsIn in_loop
+            (raw.While (raw_condition_of cond.now) (raw_one (raw_put_in_front body.now)))
+            at.old) }
 {
     let before = at.begin_loop()?;
     let found = condition(alloc, at, cond)?;
@@ -384,6 +398,7 @@ fn while_loop(
     })
 }
 
+/// A loop that tests last: its condition stands behind its body in the source.
 #[cycle(walk)]
 fn do_loop(
     alloc: Global,
@@ -393,8 +408,12 @@ fn do_loop(
     cond: &RawCond,
 ) -> Result<Stmt, CheckFault>
     ensures { MatchResult result
-        (λ stmt. Puts in_loop (raw.Do (raw_one (raw_put_in_front body.now)) (raw_condition_of cond.now)) at.old at.new stmt)
-        (FailsIn in_loop (raw.Do (raw_one (raw_put_in_front body.now)) (raw_condition_of cond.now)) at.old) }
+        (λ stmt. Puts in_loop
+            (raw.Do (raw_one (raw_put_in_front body.now)) (raw_condition_of cond.now))
+            at.old at.new stmt)
+        (FailsIn in_loop
+            (raw.Do (raw_one (raw_put_in_front body.now)) (raw_condition_of cond.now))
+            at.old) }
 {
     let before = at.begin_loop()?;
     let made = block(alloc, at, true, body)?;

@@ -1,11 +1,12 @@
 -- How far readings go, and that they do not depend on their first argument.
-use Rattle.std.proofs.Common.{◌≡◌, Bool, ℕ, zero, suc, ◌+◌, ◌<◌, ◌≤◌, List, [], ◌∷◌, length, Some, ap, arith}
+use Rattle.std.proofs.Common.{◌≡◌, ℕ, zero, suc, ◌+◌, ◌<◌, ◌≤◌, List, [], ◌∷◌, length, Some, ap, arith}
 use Rattle.c_ast.specs.RawTree.{RawExpression, Bin}
 use Rattle.c_ast.specs.declared.expr.BinOp.{BinOp}
-use Rattle.c_tokens.specs.declared.kind.Kind.{Kind}
 use Rattle.c_tokens.specs.declared.token.Token.{Token}
-use Rattle.c_reader.specs.ReadExpressions.{Reading, is_question, is_closing, is_colon, level_by, whole_by, operand_within, further_within, choice_within}
-use Rattle.c_reader.proofs.Parts.{Passes, IsNext, OperandIs, OperandIs-from_operand, named, constant, bracketed, signed, JoinedIs, JoinedIs-from_joined, ChosenIs, ChosenIs-from_chosen, ends, goes_on, LevelIs-from_level, WholeIs-from_whole}
+use Rattle.c_reader.specs.ReadExpressions.{Reading, level_by, whole_by, operand_within, further_within, choice_within}
+use Rattle.c_reader.specs.declared.sign.Sign.TheVariants as sign
+use Rattle.c_reader.proofs.Reading.{SignFirst-short}
+use Rattle.c_reader.proofs.Parts.{IsNext, OperandIs, OperandIs-from_operand, named, constant, bracketed, signed, JoinedIs, JoinedIs-from_joined, ChosenIs, ChosenIs-from_chosen, ends, goes_on, LevelIs-from_level, WholeIs-from_whole}
 
 -- what the program of a bound reads at a level, and as a whole
 abbrev pub level_within : ℕ → ℕ → List Token → Reading
@@ -43,10 +44,6 @@ whole-short n short tokens e others is =
       short.choice parts.cond parts.after e others parts.goes_on,
     )
 
-pub Passes-short : (is_it : Kind → Bool) (tokens others : List Token) → Passes is_it tokens others
-    → length tokens ≡ length others + 1
-Passes-short is_it tokens others passes = rw passes.parts (omega arith)
-
 pub IsNext-short : (level : ℕ) (tokens : List Token) (at : ℕ) (op : BinOp) (line : ℕ) (others : List Token)
     → IsNext level tokens at op line others → length tokens ≡ length others + 1
 IsNext-short level tokens at op line others next = rw next.parts (omega arith)
@@ -57,7 +54,7 @@ operand-short : (n : ℕ) → IsShort n → (token : Token) (others : List Token
 operand-short n short token others e last (named name is) = omega arith
 operand-short n short token others e last (constant value is below) = omega arith
 operand-short n short token others e last (bracketed _ after _ is inside passes) =
-    omega (arith, whole-short n short others e after inside, Passes-short is_closing after last passes)
+    omega (arith, whole-short n short others e after inside, SignFirst-short sign.CloseRound after last passes)
 operand-short n short token others e last (signed op f _ is operand) =
     omega (arith, short.operand others f last operand)
 
@@ -80,9 +77,9 @@ choice-short n short cond tokens e last (ends same all none) = omega (arith, ap 
 choice-short n short cond tokens e last (goes_on others after further f g question first colon second same) =
     omega (
       arith,
-      Passes-short is_question tokens others question,
+      SignFirst-short sign.Question tokens others question,
       whole-short n short others f after first,
-      Passes-short is_colon after further colon,
+      SignFirst-short sign.Colon after further colon,
       whole-short n short further g last second,
     )
 

@@ -6,12 +6,21 @@ use Rattle.c_tokens.specs.declared.kind.Kind.{Kind}
 use Rattle.c_tokens.specs.declared.kind.Kind.TheVariants as k
 use Rattle.c_tokens.specs.declared.token.Token.{Token}
 use Rattle.c_reader.specs.Expressions as spelled
-use Rattle.c_reader.specs.Expressions.{operator_of, SpellsAt, alone, joined, EndsExpression, BeginsExpression, expression_depth}
-use Rattle.c_reader.specs.ReadExpressions.{behind, is_question, operand_within, further_within, choice_within, operand_at, expression_at}
+use Rattle.c_reader.specs.Expressions.{operator_of, SpellsAt, alone, joined, SpellsExpression, EndsExpression, expression_depth}
+use Rattle.c_reader.specs.ReadExpressions.{operand_within, further_within, choice_within, operand_at, expression_at}
+use Rattle.c_reader.specs.declared.sign.Sign.TheVariants as sign
+use Rattle.c_reader.specs.Signs.{behind_sign}
 use Rattle.c_reader.proofs.Equations.{whole_within-at}
-use Rattle.c_reader.proofs.Parts.{Stops, closing-is, question-is, colon-is, IsNext, OperandIs, OperandIs-from_operand, named, constant, bracketed, signed, JoinedIs, JoinedIs-from_joined, ChosenIs, ChosenIs-from_chosen, ends, goes_on, LevelIs-from_level, WholeIs-from_whole}
+use Rattle.c_reader.proofs.Parts.{Stops, IsNext, OperandIs, OperandIs-from_operand, named, constant, bracketed, signed, JoinedIs, JoinedIs-from_joined, ChosenIs, ChosenIs-from_chosen, ends, goes_on, LevelIs-from_level, WholeIs-from_whole}
 use Rattle.c_reader.proofs.Bounds.{level_within, whole_within}
 use Rattle.std.proofs.lemmas.Option.{same_Some}
+
+-- The tokens begin with those of the expression, no expression goes on behind them, and these follow.
+pub record BeginsExpression (tokens : List Token) (e : RawExpression) (behind : List Token) : Type 0 where
+  pub front : List Token
+  pub parts : tokens ≡ front ++ behind
+  pub spells : SpellsExpression e front
+  pub ends : EndsExpression behind
 
 -- the levels of equal operators
 level_is : (level at : ℕ) (op other : BinOp) → 1 ≤ level → level ≤ 6
@@ -98,12 +107,11 @@ operand-sound n sound token others e last (constant value is below) =
     primary token others _ (spelled.constant value token is below)
 operand-sound n sound token others e last (bracketed _ after _ is inside closing) =
     let b = whole-sound n sound others e after inside in
-    let ends_it = closing-is closing.token.kind closing.is_so in
     record {
       front = token ∷ (b.front ++ closing.token ∷ []);
       parts = ap (λ (l : List Token). token ∷ l) (b.parts ∙ ap (λ (l : List Token). b.front ++ l) closing.parts
           ∙ sym (append_assoc b.front (closing.token ∷ []) last));
-      spells = alone 7 e _ (omega arith) (spelled.bracketed token closing.token e b.front is ends_it b.spells);
+      spells = alone 7 e _ (omega arith) (spelled.bracketed token closing.token e b.front is closing.has b.spells);
       stops = Stops-operand 7 last (omega arith);
     }
 operand-sound n sound token others e last (signed op f _ is operand) =
@@ -148,7 +156,7 @@ further-sound n sound level at left us whole tokens e last low most spells parts
     b.stops further
 
 -- Where no operator and no `?` stands first, no expression goes on.
-pub EndsExpression-from_none : (tokens : List Token) → Stops 1 tokens → behind is_question tokens ≡ None → EndsExpression tokens
+pub EndsExpression-from_none : (tokens : List Token) → Stops 1 tokens → behind_sign sign.Question tokens ≡ None → EndsExpression tokens
 EndsExpression-from_none [] stops none = tt
 EndsExpression-from_none (sign ∷ others) stops none = (by_operator (operator_of sign.kind) refl, λ question. cc (rw question at none))
   where
@@ -177,8 +185,8 @@ choice-sound n sound cond us whole tokens e last spells parts stops
           ∙ sym (append_assoc b.front (colon.token ∷ d.front) last)))
           ∙ sym (append_assoc us (question.token ∷ (b.front ++ colon.token ∷ d.front)) last);
       spells = subst (λ (x : RawExpression). SpellsAt 0 x (us ++ question.token ∷ (b.front ++ colon.token ∷ d.front))) same
-          (spelled.chosen question.token colon.token cond f g us b.front d.front (question-is question.token.kind question.is_so)
-          (colon-is colon.token.kind colon.is_so) spells b.spells d.spells);
+          (spelled.chosen question.token colon.token cond f g us b.front d.front question.has
+          colon.has spells b.spells d.spells);
       ends = d.ends;
     }
 

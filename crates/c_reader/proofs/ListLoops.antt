@@ -8,7 +8,7 @@ use Rattle.c_reader.specs.ReadExpressions.{◌>>=◌}
 use Rattle.c_reader.specs.Signs.{behind_sign}
 use Rattle.c_reader.specs.ReadDeclarations.{Reads, listed_by, listed_within, listed_at}
 use Rattle.c_reader.specs.ReadStatements.{entry_at, entries_at, entries_by, entries_within}
-use Rattle.c_reader.proofs.Reading.{step, IsSound, Front-shorter, SignFirst, behind_sign-found}
+use Rattle.c_reader.proofs.Reading.{step, IsSound, Front-shorter, SignFirst-short, behind_sign-found}
 
 -- a list that is read, behind what was read before
 abbrev pub prefixed : {X : Type 0} → List X → Reads (List X) → Reads (List X)
@@ -23,9 +23,6 @@ prefixed-more : {X : Type 0} (made : List X) (x : X) (reading : Reads (List X))
     → prefixed made (reading >>= λ y. Some (x ∷ y.0, y.1)) ≡ prefixed (made ++ x ∷ []) reading
 prefixed-more made x None = refl
 prefixed-more made x (Some y) = ap (λ l. Some (l, y.1)) (sym (append_assoc made (x ∷ []) y.0))
-
-behind_sign-shorter : (tokens others : List Token) → SignFirst sign.Comma tokens others → length others < length tokens
-behind_sign-shorter tokens others at = rw at.parts (omega arith)
 
 none-step : {A B : Type 0} {m : Option A} (f : A → Option B) → m ≡ None → (m >>= f) ≡ None
 none-step f found = ap (λ o. o >>= f) found
@@ -95,7 +92,7 @@ listed-shorter Spells item others after behind x sound found comma =
     omega (
       arith,
       Front-shorter Spells others x after (sound others (x, after) found),
-      behind_sign-shorter after behind (behind_sign-found sign.Comma after behind comma),
+      SignFirst-short sign.Comma after behind (behind_sign-found sign.Comma after behind comma),
     )
 
 pub listed-more : {X : Type 0} (Spells : X → List Token → Type 0) (item : List Token → Reads X) (made new : List X)

@@ -10,7 +10,10 @@ use Rattle.c_tokens.specs.declared.kind.Kind.{Kind}
 use Rattle.c_tokens.specs.declared.kind.Kind.TheVariants as k
 use Rattle.c_tokens.specs.declared.token.Token.{Token}
 use Rattle.c_reader.specs.Expressions.{unary_of, operator_of}
-use Rattle.c_reader.specs.ReadExpressions.{Reader, Further, NextOperator, ◌>>=◌, Reading, behind, is_closing, is_question, is_colon, next_operator, operand_by, joined_by, chosen_by, level_by, whole_by}
+use Rattle.c_reader.specs.ReadExpressions.{Reader, Further, NextOperator, ◌>>=◌, Reading, next_operator, operand_by, joined_by, chosen_by, level_by, whole_by}
+use Rattle.c_reader.specs.declared.sign.Sign.TheVariants as sign
+use Rattle.c_reader.specs.Signs.{behind_sign}
+use Rattle.c_reader.proofs.Reading.{SignFirst, behind_sign-found}
 
 -- a step that found something, and what the rest made of it
 pub record IsStep {A B : Type 0} (step : Option A) (go_on : A → Option B) (y : B) : Type 0 where
@@ -37,31 +40,6 @@ pub if-Some : {A : Type 0} (test : Bool) (value result : A) → (if test then So
     → (test ≡ true) × (value ≡ result)
 if-Some true value result is = (refl, cc)
 if-Some false value result is = absurd cc
-
--- the first token that `behind` passed
-pub record Passes (is_it : Kind → Bool) (tokens others : List Token) : Type 0 where
-  pub token : Token
-  pub parts : tokens ≡ token ∷ others
-  pub is_so : is_it token.kind ≡ true
-
-pub Passes-from_behind : (is_it : Kind → Bool) (tokens others : List Token) → behind is_it tokens ≡ Some others
-    → Passes is_it tokens others
-Passes-from_behind is_it [] others is = absurd cc
-Passes-from_behind is_it (token ∷ last) others is =
-    let both = if-Some (is_it token.kind) last others is in
-    record { token = token; parts = ap (λ (l : List Token). token ∷ l) both.1; is_so = both.0 }
-
-pub closing-is : (kind : Kind) → is_closing kind ≡ true → kind ≡ k.CloseRound
-closing-is k.CloseRound is = refl
-closing-is kind is = absurd cc
-
-pub question-is : (kind : Kind) → is_question kind ≡ true → kind ≡ k.Question
-question-is k.Question is = refl
-question-is kind is = absurd cc
-
-pub colon-is : (kind : Kind) → is_colon kind ≡ true → kind ≡ k.Colon
-colon-is k.Colon is = refl
-colon-is kind is = absurd cc
 
 -- the operator that stands first
 pub record IsNext (level : ℕ) (tokens : List Token) (at : ℕ) (op : BinOp) (line : ℕ) (others : List Token) : Type 0 where
@@ -109,7 +87,7 @@ pub data OperandIs (kind : Kind) (line : ℕ) (others : List Token) (inside oper
   constant : (value : ℕ) → kind ≡ k.Constant value → value < 2 ^ 63
       → OperandIs kind line others inside operand (Num (pos value)) others
   bracketed : (e : RawExpression) (after last : List Token) → kind ≡ k.OpenRound → inside ≡ Some (e, after)
-      → Passes is_closing after last → OperandIs kind line others inside operand e last
+      → SignFirst sign.CloseRound after last → OperandIs kind line others inside operand e last
   signed : (op : UnOp) (e : RawExpression) (last : List Token) → unary_of kind ≡ Some op → operand ≡ Some (e, last)
       → OperandIs kind line others inside operand (Un op e) last
 
@@ -139,10 +117,10 @@ OperandIs-from_operand (k.Constant value) line others inside operand e last is =
     (constant value refl (grind (arith, nat_tests, both.0)))
 OperandIs-from_operand k.OpenRound line others inside operand e last is =
     let step = step_of inside _ (e, last) is in
-    let closing = step_of (behind is_closing step.x.1) _ (e, last) step.goes_on in
+    let closing = step_of (behind_sign sign.CloseRound step.x.1) _ (e, last) step.goes_on in
     subst (λ (x : RawExpression × List Token). OperandIs k.OpenRound line others inside operand x.0 x.1)
     (same_Some (step.x.0, closing.x) (e, last) closing.goes_on)
-    (bracketed step.x.0 step.x.1 closing.x refl step.found (Passes-from_behind is_closing step.x.1 closing.x closing.found))
+    (bracketed step.x.0 step.x.1 closing.x refl step.found (behind_sign-found sign.CloseRound step.x.1 closing.x closing.found))
 OperandIs-from_operand kind line others inside operand e last is =
     OperandIs-from_sign kind line others inside operand e last is
 
@@ -171,28 +149,28 @@ JoinedIs-from_joined left tokens level right further e last is = by_next (next_o
 
 -- what goes on from a condition
 pub data ChosenIs (cond : RawExpression) (tokens : List Token) (value : Reader) (e : RawExpression) (last : List Token) : Type 0 where
-  ends : cond ≡ e → tokens ≡ last → behind is_question tokens ≡ None → ChosenIs cond tokens value e last
-  goes_on : (others after others' : List Token) (f g : RawExpression) → Passes is_question tokens others
-      → value others ≡ Some (f, after) → Passes is_colon after others' → value others' ≡ Some (g, last)
+  ends : cond ≡ e → tokens ≡ last → behind_sign sign.Question tokens ≡ None → ChosenIs cond tokens value e last
+  goes_on : (others after others' : List Token) (f g : RawExpression) → SignFirst sign.Question tokens others
+      → value others ≡ Some (f, after) → SignFirst sign.Colon after others' → value others' ≡ Some (g, last)
       → Cond cond f g ≡ e → ChosenIs cond tokens value e last
 
 pub ChosenIs-from_chosen : (cond : RawExpression) (tokens : List Token) (value : Reader)
     (e : RawExpression) (last : List Token)
-    → chosen_by cond tokens (behind is_question tokens) value ≡ Some (e, last) → ChosenIs cond tokens value e last
-ChosenIs-from_chosen cond tokens value e last is = by_behind (behind is_question tokens) refl is
+    → chosen_by cond tokens (behind_sign sign.Question tokens) value ≡ Some (e, last) → ChosenIs cond tokens value e last
+ChosenIs-from_chosen cond tokens value e last is = by_behind (behind_sign sign.Question tokens) refl is
   where
-    by_behind : (others : Option (List Token)) → behind is_question tokens ≡ others
+    by_behind : (others : Option (List Token)) → behind_sign sign.Question tokens ≡ others
         → chosen_by cond tokens others value ≡ Some (e, last) → ChosenIs cond tokens value e last
     by_behind None none is =
         let both = same_Some (cond, tokens) (e, last) is in
         ends (ap (λ (x : RawExpression × List Token). x.0) both) (ap (λ (x : RawExpression × List Token). x.1) both) none
     by_behind (Some others) some is =
         let first = step_of (value others) _ (e, last) is in
-        let colon = step_of (behind is_colon first.x.1) _ (e, last) first.goes_on in
+        let colon = step_of (behind_sign sign.Colon first.x.1) _ (e, last) first.goes_on in
         let second = step_of (value colon.x) _ (e, last) colon.goes_on in
         let both = same_Some (Cond cond first.x.0 second.x.0, second.x.1) (e, last) second.goes_on in
-        goes_on others first.x.1 colon.x first.x.0 second.x.0 (Passes-from_behind is_question tokens others some)
-        first.found (Passes-from_behind is_colon first.x.1 colon.x colon.found)
+        goes_on others first.x.1 colon.x first.x.0 second.x.0 (behind_sign-found sign.Question tokens others some)
+        first.found (behind_sign-found sign.Colon first.x.1 colon.x colon.found)
         (second.found ∙ ap (λ (x : RawExpression × List Token). Some (second.x.0, x.1)) both)
         (ap (λ (x : RawExpression × List Token). x.0) both)
 

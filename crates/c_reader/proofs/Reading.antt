@@ -1,5 +1,5 @@
 -- Steps of reading: what follows from one that found something, and what makes one find it.
-use Rattle.std.proofs.Common.{◌≡◌, ◌≤◌, Bool, true, false, List, [], ◌∷◌, ◌++◌, length, length-append, Option, Some, None, refl, sym, ap, ◌∙◌, append_assoc, inl, inr, ◌⊎◌, arith}
+use Rattle.std.proofs.Common.{◌≡◌, ◌+◌, ◌≤◌, Bool, true, false, List, [], ◌∷◌, ◌++◌, length, length-append, Option, Some, None, refl, sym, ap, ◌∙◌, append_assoc, inl, inr, ◌⊎◌, arith}
 use Rattle.c_tokens.specs.declared.kind.Kind.{Kind}
 use Rattle.c_tokens.specs.declared.kind.Kind.TheVariants as k
 use Rattle.c_tokens.specs.declared.token.Token.{Token}
@@ -36,6 +36,8 @@ HasSign sign.CloseCurly kind = kind ≡ k.CloseCurly
 HasSign sign.Semicolon kind = kind ≡ k.Semicolon
 HasSign sign.Comma kind = kind ≡ k.Comma
 HasSign sign.Assign kind = kind ≡ k.Assign
+HasSign sign.Question kind = kind ≡ k.Question
+HasSign sign.Colon kind = kind ≡ k.Colon
 HasSign sign.Ampersand kind = (kind ≡ k.Amp) ⊎ (kind ≡ k.AmpAmp)
 HasSign sign.Qualifier kind = (kind ≡ k.Extern) ⊎ (kind ≡ k.Static)
 
@@ -53,6 +55,8 @@ HasSign-from_test sign.CloseCurly k.CloseCurly is = refl
 HasSign-from_test sign.Semicolon k.Semicolon is = refl
 HasSign-from_test sign.Comma k.Comma is = refl
 HasSign-from_test sign.Assign k.Assign is = refl
+HasSign-from_test sign.Question k.Question is = refl
+HasSign-from_test sign.Colon k.Colon is = refl
 HasSign-from_test sign.Ampersand k.Amp is = inl refl
 HasSign-from_test sign.Ampersand k.AmpAmp is = inr refl
 HasSign-from_test sign.Qualifier k.Extern is = inl refl
@@ -73,6 +77,8 @@ test-from_HasSign sign.CloseCurly kind is = ap (is_sign sign.CloseCurly) is
 test-from_HasSign sign.Semicolon kind is = ap (is_sign sign.Semicolon) is
 test-from_HasSign sign.Comma kind is = ap (is_sign sign.Comma) is
 test-from_HasSign sign.Assign kind is = ap (is_sign sign.Assign) is
+test-from_HasSign sign.Question kind is = ap (is_sign sign.Question) is
+test-from_HasSign sign.Colon kind is = ap (is_sign sign.Colon) is
 test-from_HasSign sign.Ampersand kind (inl is) = ap (is_sign sign.Ampersand) is
 test-from_HasSign sign.Ampersand kind (inr is) = ap (is_sign sign.Ampersand) is
 test-from_HasSign sign.Qualifier kind (inl is) = ap (is_sign sign.Qualifier) is
@@ -106,6 +112,10 @@ pub behind_sign-found : (s : Sign) (tokens others : List Token) → behind_sign 
     → SignFirst s tokens others
 behind_sign-found s [] others found = absurd cc
 behind_sign-found s (first ∷ after) others found = found-by s first after others (is_sign s first.kind) refl found
+
+pub SignFirst-short : (s : Sign) (tokens others : List Token) → SignFirst s tokens others
+    → length tokens ≡ length others + 1
+SignFirst-short s tokens others first = rw first.parts (omega arith)
 
 -- ---- what stands at the front
 

@@ -74,10 +74,3 @@ expression_depth (Cond cond e f) = max (expression_depth cond) (max (expression_
 abbrev pub EndsExpression : List Token → Type 0
 EndsExpression [] = Unit {0}
 EndsExpression (token ∷ others) = (operator_of token.kind ≡ None) × (token.kind ≡ k.Question → ⊥)
-
--- The tokens begin with those of the expression, no expression goes on behind them, and these follow.
-pub record BeginsExpression (tokens : List Token) (e : RawExpression) (behind : List Token) : Type 0 where
-  pub front : List Token
-  pub parts : tokens ≡ front ++ behind
-  pub spells : SpellsExpression e front
-  pub ends : EndsExpression behind

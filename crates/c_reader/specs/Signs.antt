@@ -1,11 +1,10 @@
 -- Tokens with one spelling, and the tokens behind them.
-use Rattle.std.specs.Prelude.{Bool, true, false, if◌then◌else◌, List, [], ◌∷◌, Option}
+use Rattle.std.specs.Prelude.{Bool, true, false, if◌then◌else◌, List, [], ◌∷◌, Option, Some, None}
 use Rattle.c_tokens.specs.declared.kind.Kind.{Kind}
 use Rattle.c_tokens.specs.declared.kind.Kind.TheVariants as k
 use Rattle.c_tokens.specs.declared.token.Token.{Token}
 use Rattle.c_reader.specs.declared.sign.Sign.{Sign}
 use Rattle.c_reader.specs.declared.sign.Sign.TheVariants as sign
-use Rattle.c_reader.specs.ReadExpressions.{behind}
 
 -- whether the kind is the one that the sign names; `Ampersand` names both `&` and `&&`
 abbrev pub is_sign : Sign → Kind → Bool
@@ -22,6 +21,8 @@ is_sign sign.CloseCurly k.CloseCurly = true
 is_sign sign.Semicolon k.Semicolon = true
 is_sign sign.Comma k.Comma = true
 is_sign sign.Assign k.Assign = true
+is_sign sign.Question k.Question = true
+is_sign sign.Colon k.Colon = true
 is_sign sign.Ampersand k.Amp = true
 is_sign sign.Ampersand k.AmpAmp = true
 is_sign sign.Qualifier k.Extern = true
@@ -30,7 +31,8 @@ is_sign _ _ = false
 
 -- the tokens behind the sign, where it stands first
 abbrev pub behind_sign : Sign → List Token → Option (List Token)
-behind_sign sign tokens = behind (is_sign sign) tokens
+behind_sign sign [] = None
+behind_sign sign (first ∷ others) = if is_sign sign first.kind then Some others else None
 
 -- whether the sign stands first
 abbrev pub begins : Sign → List Token → Bool

@@ -4,10 +4,11 @@ ghost use Rattle.c_ast.specs.RawTree.{Num, Named, Un, Bin, Cond};
 ghost use Rattle.c_ast.specs.RawView.{raw_expression_of};
 ghost use Rattle.c_reader.specs.Expressions.{expression_depth};
 ghost use Rattle.c_reader.specs.Faults.{Refuses};
-ghost use Rattle.c_reader.specs.ReadExpressions.{behind, is_closing, is_question, is_colon, next_operator, operand_at, level_at, expression_at, IsDeeper};
+ghost use Rattle.c_reader.specs.ReadExpressions.{next_operator, operand_at, level_at, expression_at, IsDeeper};
 
 use crate::ReadFault;
 use crate::operators::{LOOSEST, operator_of, unary_of};
+use crate::sign::{Sign, behind_sign};
 use c_ast::{BinOp, Name, RawExpr, UnOp};
 use c_tokens::{Kind, Token};
 use sqlite_items::Boxed;
@@ -34,57 +35,6 @@ fn next_operator(level: u32, tokens: &[Token]) -> Option<(u32, BinOp, u32, &[Tok
         Some((at, op, token.line, behind))
     } else {
         None
-    }
-}
-
-// The tokens behind a `)`.
-fn behind_closing(tokens: &[Token]) -> Option<&[Token]>
-    ensures behind { option_map (λ x. x.now) result ≡ behind is_closing tokens.now }
-    ensures shorter { IfSome result (λ x. length x.now < length tokens.now) }
-{
-    match tokens {
-        [
-            Token {
-                kind: Kind::CloseRound,
-                ..
-            },
-            others @ ..,
-        ] => Some(others),
-        _ => None,
-    }
-}
-
-// The tokens behind a `?`.
-fn behind_question(tokens: &[Token]) -> Option<&[Token]>
-    ensures behind { option_map (λ x. x.now) result ≡ behind is_question tokens.now }
-    ensures shorter { IfSome result (λ x. length x.now < length tokens.now) }
-{
-    match tokens {
-        [
-            Token {
-                kind: Kind::Question,
-                ..
-            },
-            others @ ..,
-        ] => Some(others),
-        _ => None,
-    }
-}
-
-// The tokens behind a `:`.
-fn behind_colon(tokens: &[Token]) -> Option<&[Token]>
-    ensures behind { option_map (λ x. x.now) result ≡ behind is_colon tokens.now }
-    ensures shorter { IfSome result (λ x. length x.now < length tokens.now) }
-{
-    match tokens {
-        [
-            Token {
-                kind: Kind::Colon,
-                ..
-            },
-            others @ ..,
-        ] => Some(others),
-        _ => None,
     }
 }
 
@@ -202,7 +152,7 @@ fn read_operand<'a>(
         }
         Kind::OpenRound => {
             let (inside, after) = read_expression(alloc, room, others)?;
-            let Some(after) = behind_closing(after) else {
+            let Some(after) = behind_sign(Sign::CloseRound, after) else {
                 return Err(ReadFault::Grammar);
             };
             Ok((inside, after))
@@ -259,12 +209,12 @@ pub fn read_expression<'a>(
     ensures refused { IfErr result (Refuses (IsDeeper room (expression_at tokens.now))) }
 {
     let (cond, others) = read_level(alloc, room, LOOSEST, tokens)?;
-    let Some(others) = behind_question(others) else {
+    let Some(others) = behind_sign(Sign::Question, others) else {
         return Ok((cond, others));
     };
     let inside = room_beside(cond.depth, room)?;
     let (first, after) = read_expression(alloc, inside, others)?;
-    let Some(after) = behind_colon(after) else {
+    let Some(after) = behind_sign(Sign::Colon, after) else {
         return Err(ReadFault::Grammar);
     };
     let (second, after) = read_expression(alloc, inside, after)?;

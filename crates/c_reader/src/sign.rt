@@ -1,5 +1,5 @@
 //! Tokens with one spelling.
-ghost use Rattle.std.specs.Prelude.{◌≡◌, ◌<◌, option_map};
+ghost use Rattle.std.specs.Prelude.{◌≡◌, ◌<◌, length, IfSome, option_map};
 ghost use Rattle.c_reader.specs.Gives.{Gives};
 ghost use Rattle.c_reader.specs.Signs.{is_sign, behind_sign, begins, skipped};
 
@@ -22,6 +22,8 @@ pub enum Sign {
     Semicolon,
     Comma,
     Assign,
+    Question,
+    Colon,
     /// `&` or `&&`.
     Ampersand,
     /// `extern` or `static`.
@@ -46,6 +48,8 @@ pub fn is_sign(sign: Sign, kind: &Kind) -> bool
         Sign::Semicolon => matches!(kind, Kind::Semicolon),
         Sign::Comma => matches!(kind, Kind::Comma),
         Sign::Assign => matches!(kind, Kind::Assign),
+        Sign::Question => matches!(kind, Kind::Question),
+        Sign::Colon => matches!(kind, Kind::Colon),
         Sign::Ampersand => matches!(kind, Kind::Amp | Kind::AmpAmp),
         Sign::Qualifier => matches!(kind, Kind::Extern | Kind::Static),
     }
@@ -53,7 +57,8 @@ pub fn is_sign(sign: Sign, kind: &Kind) -> bool
 
 /// The tokens behind the sign, where it stands first.
 pub fn behind_sign(sign: Sign, tokens: &[Token]) -> Option<&[Token]>
-    ensures { option_map (λ x. x.now) result ≡ behind_sign sign tokens.now }
+    ensures behind { option_map (λ x. x.now) result ≡ behind_sign sign tokens.now }
+    ensures shorter { IfSome result (λ x. length x.now < length tokens.now) }
 {
     let (first, others) = tokens.split_first()?;
     is_sign(sign, &first.kind).then_some(others)

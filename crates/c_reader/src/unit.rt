@@ -14,7 +14,7 @@ ghost use Rattle.c_reader.specs.declared.sign.Sign.{Sign};
 use crate::ReadFault;
 use crate::declaration::{expect_type, name_at, read_name, read_parameters};
 use crate::depth::is_deep;
-use crate::sign::{Sign, begins, behind_sign, expect, is_sign};
+use crate::sign::{Sign, begins, behind_sign, expect};
 use crate::statement::read_entries;
 use c_ast::{RawFunc, RawUnit, Var};
 use c_tokens::Token;
@@ -103,6 +103,7 @@ fn read_item<'a>(
     Ok((Some(func), after))
 }
 
+// Adds the function, if there is one: a declaration of `__mark` gives none.
 fn push_some(funcs: &mut Items<RawFunc>, func: Option<RawFunc>) -> Result<(), AllocError>
     ensures { OnOk result (funcs.new ≡ funcs.old ++ option_to_list func) }
 {
@@ -130,7 +131,8 @@ fn read_items(alloc: Global, room: u32, tokens: &[Token]) -> Result<Items<RawFun
 ///
 /// A tree has at most 400 levels, and in no prefix of the tokens do the openings `(` and `{` exceed the closings `)` and
 /// `}` by more than 200. Each answer comes exactly where it is so, unless memory runs out: a unit where the tokens spell
-/// one within both limits, `Deep` past the limit of brackets, and `Grammar` otherwise.
+/// one within both limits, `Deep` past the limit of brackets, and `Grammar` otherwise. A constant of 2^63 or more is in
+/// no expression.
 pub fn read_unit(alloc: Global, tokens: &[Token]) -> Result<RawUnit, ReadFault>
     // The tokens spell the unit, within both limits.
     ensures spelled { IfOk result (λ unit. SpellsUnit tokens.now (map raw_function_of unit.funcs)) }

@@ -22,6 +22,7 @@ fn depth_of_statements_is_limited(rt: HostRuntime) -> Result<(), Fail> {
     let rows = [
         // Each kind around others.
         ("if (a) ", ";", "", 398),
+        ("if (a) ", "; return a;", "", 398),
         ("if (a) ", ";", " else ;", 398),
         ("if (a) ; else ", ";", "", 398),
         ("while (a) ", ";", "", 398),
@@ -116,6 +117,28 @@ fn depth_of_expressions_is_limited(rt: HostRuntime) -> Result<(), Fail> {
             Some(ReadFault::Grammar),
             "{before}{behind}"
         );
+    }
+    Ok(())
+}
+
+#[test]
+fn open_brackets_are_limited(rt: HostRuntime) -> Result<(), Fail> {
+    let alloc = rt.alloc();
+    // The block of the function is open around so many others. More than 200 are too many, whatever else is wrong.
+    let rows = [
+        ("", "{", 199, ";", "}", None),
+        ("", "{", 200, ";", "}", Some(ReadFault::Deep)),
+        // Brackets that stay open.
+        ("return ", "(", 199, "", "", Some(ReadFault::Grammar)),
+        ("return ", "(", 200, "", "", Some(ReadFault::Deep)),
+        // A closing before them makes room for one more.
+        ("}", "{", 200, "", "", Some(ReadFault::Grammar)),
+        ("}", "{", 201, "", "", Some(ReadFault::Deep)),
+    ];
+    for (before, front, times, middle, back, fault) in rows {
+        let nested = around(alloc, front, times, middle, back)?;
+        let body = around(alloc, before, 1, nested.as_str(), "")?;
+        assert_eq!(rt; fault_of(alloc, body.as_str())?, fault, "{before}{front} {times}");
     }
     Ok(())
 }

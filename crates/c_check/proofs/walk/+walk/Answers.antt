@@ -50,7 +50,7 @@ item-returns-in_err-found-in-For t c =
     failed.ensures.0 failed.ensures.1 (λ other is. is)
     (fails_test c.args.in_loop (raw_optional (option_map raw_put_in_front c.in-For.start)) (option_map raw_condition_of c.in-For.cond) (raw_optional (option_map raw_put_in_front c.in-For.step))
     (raw_one (raw_put_in_front c.in-For.body)) c.args.at.now c.begin_loop.new.self c.enter.new.self c.one_or_none.new.at c.in_ok-head-in-For.head c.in_err-found-in-For.field-0.0
-    c.in_ok-before-in-For.ensures.counted c.in_ok-enter-in-For.ensures.entered c.in_ok-head-in-For.ensures c.in_err-found-in-For.ensures)
+    c.in_ok-before-in-For.ensures.counted c.in_ok-enter-in-For.ensures.entered c.in_ok-head-in-For.ensures c.in_err-found-in-For.ensures.made)
 
 pub item-returns-in_err-inner-in-For : goal.item-returns-in_err-inner-in-For
 item-returns-in_err-inner-in-For t c =
@@ -61,7 +61,7 @@ item-returns-in_err-inner-in-For t c =
     (fails_body c.args.in_loop (raw_optional (option_map raw_put_in_front c.in-For.start)) (option_map raw_condition_of c.in-For.cond) (raw_optional (option_map raw_put_in_front c.in-For.step))
     (raw_one (raw_put_in_front c.in-For.body)) c.args.at.now c.begin_loop.new.self c.enter.new.self c.one_or_none.new.at c.condition_option.new.at c.block_or_none-in-For.new.at c.in_ok-head-in-For.head
     c.in_ok-next-in-For.next c.in_ok-found-in-For.found.cond c.in_err-inner-in-For.field-0.0
-    c.in_ok-before-in-For.ensures.counted c.in_ok-enter-in-For.ensures.entered c.in_ok-head-in-For.ensures c.in_ok-found-in-For.ensures.0 c.in_ok-next-in-For.ensures (rw c.get-in-For.ensures at c.in_err-inner-in-For.ensures))
+    c.in_ok-before-in-For.ensures.counted c.in_ok-enter-in-For.ensures.entered c.in_ok-head-in-For.ensures c.in_ok-found-in-For.ensures.made c.in_ok-next-in-For.ensures (rw c.get-in-For.ensures at c.in_err-inner-in-For.ensures))
 
 pub item-returns : goal.item-returns
 item-returns t c =
@@ -94,9 +94,9 @@ item-returns t c =
           (puts_for_behind c.args.in_loop (raw_optional (option_map raw_put_in_front w.in-For.start)) (option_map raw_condition_of w.in-For.cond) (raw_optional (option_map raw_put_in_front w.in-For.step)) (raw_one (raw_put_in_front w.in-For.body))
           c.args.at.now w.begin_loop.new.self w.enter.new.self w.one_or_none.new.at w.condition_option.new.at w.block_or_none-in-For.new.at w.block-in-For.new.at w.leave.new.self
           w.in_ok-head-in-For.head w.in_ok-next-in-For.next w.in_ok-inner-in-For.inner w.put.new.made w.loop_mark-mark.result w.in_ok-found-in-For.found.cond
-          w.in_ok-before-in-For.ensures.counted w.in_ok-enter-in-For.ensures.entered w.in_ok-head-in-For.ensures w.in_ok-found-in-For.ensures.0 w.in_ok-next-in-For.ensures
+          w.in_ok-before-in-For.ensures.counted w.in_ok-enter-in-For.ensures.entered w.in_ok-head-in-For.ensures w.in_ok-found-in-For.ensures.made w.in_ok-next-in-For.ensures
           (rw w.get-in-For.ensures at w.in_ok-inner-in-For.ensures)
-          (rw (w.get-in-For-2.ensures, w.in_ok-found-in-For.ensures.1, w.in_ok-before-in-For.ensures.number) at w.loop_mark-mark.ensures)
+          (rw (w.get-in-For-2.ensures, w.in_ok-found-in-For.ensures.mark, w.in_ok-before-in-For.ensures.number) at w.loop_mark-mark.ensures)
           (rw w.looped.ensures at w.in_ok-put-in-For.ensures.put) w.leave.ensures)
       | item-in-Break+in_ok-found-in-Break w ↦
           after_kind c.args.in_loop c.args.stmt.now (raw.Break w.in-Break.line) c.args.at.now c.match-stmt.at c.args.made.now c.put-2.new.made c.match-stmt.found c.put-2.result

@@ -14,17 +14,17 @@ returns-in_default c =
     listed-last (declarator_at c.args.room) (map raw_declared_of c.loop-made.made) (map raw_declared_of c.push.new.self)
     c.loop-made.others.now c.in_ok-declarator.after.now (raw_declared_of c.in_ok-declarator.declarator)
     (listed_at (declarator_at c.args.room) c.args.tokens.now) c.loop-made.invariant c.in_ok-declarator.ensures
-    (sym (rw c.in_default.is at c.behind_sign.ensures))
+    (sym (rw c.in_default.is at c.behind_sign.ensures.behind))
     (ap (map raw_declared_of) c.in_ok-push.ensures.ok ∙ map-append raw_declared_of c.loop-made.made (c.in_ok-declarator.declarator ∷ []))
 
 pub loop-made-smaller : goal.loop-made-smaller
 loop-made-smaller c =
     listed-shorter (SpellsShallowDeclarator c.args.room) (declarator_at c.args.room) _ _ _ _
-    (declarator_at-sound c.args.room) c.in_ok-declarator.ensures (sym c.in-Some.ensures)
+    (declarator_at-sound c.args.room) c.in_ok-declarator.ensures (sym c.in-Some.ensures.behind)
 
 pub loop-made-preserved : goal.loop-made-preserved
 loop-made-preserved c =
     listed-more (SpellsShallowDeclarator c.args.room) (declarator_at c.args.room) (map raw_declared_of c.loop-made.made)
     (map raw_declared_of c.push.new.self) _ _ _ _ _ (declarator_at-sound c.args.room) c.loop-made.invariant
-    c.in_ok-declarator.ensures (sym c.in-Some.ensures)
+    c.in_ok-declarator.ensures (sym c.in-Some.ensures.behind)
     (ap (map raw_declared_of) c.in_ok-push.ensures.ok ∙ map-append raw_declared_of c.loop-made.made (c.in_ok-declarator.declarator ∷ []))

@@ -10,9 +10,9 @@ loop-made-init c = rw c.new-made.ensures (listed-start parameter_at c.args.token
 
 pub loop-made-smaller : goal.loop-made-smaller
 loop-made-smaller c =
-    listed-shorter SpellsParameter parameter_at _ _ _ _ parameter_at-sound c.in_ok-var.ensures (sym c.in-Some.ensures)
+    listed-shorter SpellsParameter parameter_at _ _ _ _ parameter_at-sound c.in_ok-var.ensures (sym c.in-Some.ensures.behind)
 
 pub loop-made-preserved : goal.loop-made-preserved
 loop-made-preserved c =
     listed-more SpellsParameter parameter_at _ _ _ _ _ _ _ parameter_at-sound c.loop-made.invariant c.in_ok-var.ensures
-    (sym c.in-Some.ensures) c.in_ok-push.ensures.ok
+    (sym c.in-Some.ensures.behind) c.in_ok-push.ensures.ok

@@ -39,23 +39,23 @@ read_expression-returns-in_err-first-clause-refused t c =
     λ x y after first colon second. omega (arith, deeper x.0 x.1 first, c.in_ok-inside.ensures.room) in
     handed_on too_deep c.from_residual-in_err-first.result p.0 c.in_err-first.field-0.0 p.1 p.2 c.in_err-first.ensures.refused
 
-pub read_expression-returns-in_default-behind_colon-clause-refused :
-    goal.read_expression-returns-in_default-behind_colon-clause-refused
-read_expression-returns-in_default-behind_colon-clause-refused t c =
+pub read_expression-returns-in_default-behind_sign-clause-refused :
+    goal.read_expression-returns-in_default-behind_sign-clause-refused
+read_expression-returns-in_default-behind_sign-clause-refused t c =
     deeper-no_colon c.args.room c.args.tokens.now _ _ _ _ _ c.in_ok-cond.ensures.read c.in-Some.ensures.behind
-    c.in_ok-first.ensures.read c.in_default-behind_colon.ensures.behind
+    c.in_ok-first.ensures.read c.in_default-behind_sign.ensures.behind
 
 pub read_expression-returns-in_err-second-clause-refused : goal.read_expression-returns-in_err-second-clause-refused
 read_expression-returns-in_err-second-clause-refused t c =
     let p = err_from_is_err_and c.from_residual-in_err-second.result c.from_residual-in_err-second.ensures.1 in
     handed_on (deeper-second c.args.room c.in_ok-inside.inside c.args.tokens.now _ _ _ _ _ _ c.in_ok-cond.ensures.read
-    c.in-Some.ensures.behind c.in_ok-first.ensures.read c.in-Some-behind_colon.ensures.behind c.in_ok-inside.ensures.room)
+    c.in-Some.ensures.behind c.in_ok-first.ensures.read c.in-Some-behind_sign.ensures.behind c.in_ok-inside.ensures.room)
     c.from_residual-in_err-second.result p.0 c.in_err-second.field-0.0 p.1 p.2 c.in_err-second.ensures.refused
 
 pub read_expression-returns-clause-read : goal.read_expression-returns-clause-read
 read_expression-returns-clause-read t c =
     rw c.in_ok-chosen.ensures.made (reads-choice c.args.tokens.now _ _ _ _ _ _ _ _ c.in_ok-cond.ensures.read
-    c.in-Some.ensures.behind c.in_ok-first.ensures.read c.in-Some-behind_colon.ensures.behind c.in_ok-second.ensures.read)
+    c.in-Some.ensures.behind c.in_ok-first.ensures.read c.in-Some-behind_sign.ensures.behind c.in_ok-second.ensures.read)
 
 -- ---- levels
 
@@ -136,11 +136,11 @@ read_operand-returns-in_err-inside-in-OpenRound-clause-refused t c =
     handed_on too_deep c.from_residual-in_err-inside-in-OpenRound.result p.0 c.in_err-inside-in-OpenRound.field-0.0 p.1 p.2
     c.in_err-inside-in-OpenRound.ensures.refused
 
-pub read_operand-returns-in_default-behind_closing-clause-refused :
-    goal.read_operand-returns-in_default-behind_closing-clause-refused
-read_operand-returns-in_default-behind_closing-clause-refused t c =
+pub read_operand-returns-in_default-behind_sign-clause-refused :
+    goal.read_operand-returns-in_default-behind_sign-clause-refused
+read_operand-returns-in_default-behind_sign-clause-refused t c =
     deeper-none c.args.room (operand_at c.args.tokens.now) (reads-bracket c.args.tokens.now _ _ _ _ None c.in-Some.ensures.cases.0
-    c.in-OpenRound.is c.in_ok-inside-in-OpenRound.ensures.read c.in_default-behind_closing.ensures.behind)
+    c.in-OpenRound.is c.in_ok-inside-in-OpenRound.ensures.read c.in_default-behind_sign.ensures.behind)
 
 pub read_operand-returns-in_default-unary_of : goal.read_operand-returns-in_default-unary_of
 read_operand-returns-in_default-unary_of t c = record {
@@ -177,10 +177,10 @@ read_operand-returns-else-value-clause-read t c =
     rw c.constant.ensures.made (reads-constant c.args.tokens.now c.in-Some.others.now c.in-Some.token.now c.in-Constant.value
     c.in-Some.ensures.cases.0 c.in-Constant.is (omega (arith, c.if-value.false)))
 
-pub read_operand-returns-in-Some-behind_closing-clause-read : goal.read_operand-returns-in-Some-behind_closing-clause-read
-read_operand-returns-in-Some-behind_closing-clause-read t c =
-    reads-bracket c.args.tokens.now _ _ _ _ (Some c.in-Some-behind_closing.after.now) c.in-Some.ensures.cases.0
-    c.in-OpenRound.is c.in_ok-inside-in-OpenRound.ensures.read c.in-Some-behind_closing.ensures.behind
+pub read_operand-returns-in-Some-behind_sign-clause-read : goal.read_operand-returns-in-Some-behind_sign-clause-read
+read_operand-returns-in-Some-behind_sign-clause-read t c =
+    reads-bracket c.args.tokens.now _ _ _ _ (Some c.in-Some-behind_sign.after.now) c.in-Some.ensures.cases.0
+    c.in-OpenRound.is c.in_ok-inside-in-OpenRound.ensures.read c.in-Some-behind_sign.ensures.behind
 
 pub read_operand-returns-in_ok-signed-in_default-kind : goal.read_operand-returns-in_ok-signed-in_default-kind
 read_operand-returns-in_ok-signed-in_default-kind t c = record {

@@ -21,5 +21,5 @@ read_entries-loop-after-preserved t c =
     (map raw_put_in_front c.push.new.self) c.loop-after.others.now c.in_ok-stmt.behind.now
     (raw_put_in_front c.in_ok-stmt.stmt) (entries_at c.args.room (statement_at c.args.room) c.args.tokens.now)
     (entry-shorter c.args.room (statement_at c.args.room) _ _ (statement_at-sound c.args.room) c.in_ok-stmt.ensures)
-    c.loop-after.invariant (sym (rw c.in_default.is at c.behind_sign.ensures)) c.in_ok-stmt.ensures
+    c.loop-after.invariant (sym (rw c.in_default.is at c.behind_sign.ensures.behind)) c.in_ok-stmt.ensures
     (ap (map raw_put_in_front) c.in_ok-push.ensures.ok ∙ map-append raw_put_in_front c.loop-after.made (c.in_ok-stmt.stmt ∷ []))
