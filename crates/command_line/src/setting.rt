@@ -6,7 +6,7 @@ ghost use Rattle.command_line.specs.Says.{is_within};
 
 /// An option that takes a number.
 #[derive(Clone, Copy, Debug, PartialEq, Eq)]
-pub enum Setting {
+pub(crate) enum Setting {
     /// How many threads search: 1 to 64.
     Workers,
     /// How many inputs are sampled: 1 to 1,000.

@@ -7,11 +7,14 @@ use crate::reading::Reading;
 use c_ast::{Name, Settings};
 use std::alloc::{AllocError, Global};
 
-/// What a command line says: the settings, and the names of two files.
+/// What a command line says.
 #[derive(Debug, Drop)]
 pub struct Command {
+    /// The numbers of the options, each the one that is given or the option's default.
     pub settings: Settings,
+    /// The name of side A's file, which is never `make`.
     pub first: Name,
+    /// The name of side B's file.
     pub second: Name,
 }
 
@@ -24,7 +27,8 @@ pub enum NoCommand {
     Memory,
 }
 
-/// What the words say, where they are a command line.
+/// What the words say, where they are a command line. `words` leave out the program's name. The error is that they are
+/// none, or that memory ran out.
 pub fn read_command(alloc: Global, words: &[String]) -> Result<Command, NoCommand>
     ensures command { IfOk result (IsCommand (map string_bytes words.now)) }
     ensures refused { IfErr result (IsNoCommand (map string_bytes words.now)) }

@@ -1,5 +1,6 @@
 pub mod Reading
 pub mod OneReading
+pub mod OneRefusal
 pub mod Marks
 pub mod Judging
 pub mod Telling

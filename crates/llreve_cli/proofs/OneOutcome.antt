@@ -1,21 +1,12 @@
 -- Words and told texts lead to one outcome at most.
-use Rattle.std.proofs.Common.{◌≡◌, ◌≢◌, ℕ, ◌<◌, ◌≤◌, List, [], ◌∷◌, length, Option, Some, None, refl, sym, ap, ◌∙◌, subst, arith}
+use Rattle.std.proofs.Common.{◌≡◌, ◌≢◌, ℕ, ◌<◌, ◌≤◌, List, length, Option, Some, refl, sym, ap, ◌∙◌, subst, arith}
 use Rattle.re_base.specs.Told.{IsLong, longest}
 use Rattle.c_ast.specs.Function.{Function}
 use Rattle.c_ast.specs.Comparison.{Comparison, comparison}
-use Rattle.c_ast.specs.RawTree.{RawFunction}
 use Rattle.c_ast.specs.declared.trace.Pair.{Pair}
-use Rattle.c_tokens.specs.declared.token.Token.{Token}
-use Rattle.c_tokens.specs.declared.fault.TokenFault.{TokenFault}
-use Rattle.c_tokens.specs.Tokens.{AreTokens, IsFirstFault}
-use Rattle.c_tokens.proofs.OneAnswer.{answers-one}
-use Rattle.c_reader.specs.declared.fault.ReadFault.{ReadFault}
-use Rattle.c_reader.specs.declared.fault.ReadFault.TheVariants as read
-use Rattle.c_check.specs.declared.fault.CheckFault.{CheckFault}
-use Rattle.c_check.specs.declared.fault.CheckFault.TheVariants as check
-use Rattle.c_check.specs.Checked.{HoldsOne, IsCheckFault, fault_in, variables_of}
 use Rattle.command_line.specs.declared.words.Command.{Command}
 use Rattle.command_line.specs.CommandLine.{IsCommand}
+use Rattle.command_line.specs.Refused.{AreNoCommandLine}
 use Rattle.command_line.proofs.Whole.{one_command_only}
 use Rattle.report.specs.declared.early.Early.{Early}
 use Rattle.report.specs.declared.fault.Fault.{Fault}
@@ -23,101 +14,40 @@ use Rattle.report.specs.declared.fault.Fault.TheVariants as fault
 use Rattle.llreve_cli.specs.declared.outcome.Outcome.{Outcome}
 use Rattle.llreve_cli.specs.declared.outcome.Outcome.TheVariants as outcome
 use Rattle.llreve_cli.specs.declared.function.TextFault.TheVariants as refusal
-use Rattle.llreve_cli.specs.Reads.{Reads, IsReadFault, IsUnread, IsUnchecked}
+use Rattle.llreve_cli.specs.Reads.{Reads}
 use Rattle.llreve_cli.specs.Compare.{Compares}
 use Rattle.llreve_cli.specs.Samples.{TellsApart}
-use Rattle.llreve_cli.specs.Told.{status_of}
+use Rattle.llreve_cli.specs.Written.{fault_status, status_of}
 use Rattle.llreve_cli.specs.Leads.{IsRead, RefusesRead, RefusesText, arities, Leads, no_command, first_unread, second_unread, first_refused, second_refused, other_arity, compared}
-use Rattle.llreve_cli.specs.Answers.{AreTold, SampleDiffers}
-use Rattle.llreve_cli.proofs.OneReading.{tokens_once, parsed_once, one_function, not_unread, not_refused, reading_once}
+use Rattle.llreve_cli.specs.Answers.{AreTold, SampleDiffers, HasOneOutcome}
+use Rattle.llreve_cli.proofs.OneReading.{not_refused, reading_once}
+use Rattle.llreve_cli.proofs.OneRefusal.{refusal_once}
 use Rattle.llreve_cli.proofs.OneVerdict.{verdict_once, apart_different}
 
--- ---- a text has one fault at most
+-- ---- a file is refused for one reason at most
 
-read_fault_once : (tokens : List Token) (one other : ReadFault) → IsReadFault tokens one → IsReadFault tokens other → one ≡ other
-read_fault_once tokens read.Deep read.Deep is also = refl
-read_fault_once tokens read.Deep read.Grammar is also = absurd (also.0 is)
-read_fault_once tokens read.Grammar read.Deep is also = absurd (is.0 also)
-read_fault_once tokens read.Grammar read.Grammar is also = refl
-read_fault_once tokens read.Memory other is also = absurd is
-read_fault_once tokens read.Deep read.Memory is also = absurd also
-read_fault_once tokens read.Grammar read.Memory is also = absurd also
-
-unread_once : (text : List ℕ) (one other : ReadFault) → IsUnread text one → IsUnread text other → one ≡ other
-unread_once text one other is also =
-    let same = tokens_once text is.tokens also.tokens is.are also.are in
-    read_fault_once also.tokens one other (subst (λ (tokens : List Token). IsReadFault tokens one) same is.reason) also.reason
-
--- What a fault of the checker says of the file: no function, many, or one with a fault or with too many variables.
-data Broken (unit : List RawFunction) : CheckFault → Type 0 where
-  no_function : unit ≡ [] → Broken unit check.NoFunction
-  many_functions : (n : ℕ) → 2 ≤ n → length unit ≡ n → Broken unit (check.ManyFunctions n)
-  one_fault : (f : RawFunction) (first : CheckFault) → HoldsOne unit f → fault_in f ≡ Some first → Broken unit first
-  many_variables : (f : RawFunction) (n : ℕ) → HoldsOne unit f → fault_in f ≡ None → length (variables_of f) ≡ n → Broken unit (check.ManyVariables n)
-
-broken : (unit : List RawFunction) (first : CheckFault) → first ≢ check.Memory → IsCheckFault unit first → Broken unit first
-broken unit check.NoFunction want is = no_function is
-broken unit (check.ManyFunctions n) want is = many_functions n is.0 is.1
-broken unit (check.Undeclared name line) want is = one_fault is.0 (check.Undeclared name line) is.1 is.2
-broken unit (check.Twice name line) want is = one_fault is.0 (check.Twice name line) is.1 is.2
-broken unit (check.Outside line) want is = one_fault is.0 (check.Outside line) is.1 is.2
-broken unit (check.MarkRange mark) want is = one_fault is.0 (check.MarkRange mark) is.1 is.2
-broken unit (check.MarkTwice mark) want is = one_fault is.0 (check.MarkTwice mark) is.1 is.2
-broken unit (check.ManyVariables n) want is = many_variables is.0 n is.1 is.2 is.3
-broken unit check.Memory want is = absurd (want refl)
-
-one_is_not_none : (unit : List RawFunction) (f : RawFunction) → HoldsOne unit f → unit ≢ []
-one_is_not_none unit f holds none = let clash : f ∷ [] ≡ [] = sym holds ∙ none in cc
-
-one_is_not_many : (unit : List RawFunction) (f : RawFunction) (n : ℕ) → HoldsOne unit f → 2 ≤ n → length unit ≢ n
-one_is_not_many unit f n holds many is = let one : length unit ≡ 1 = ap length holds in omega (arith, one, is)
-
-broken_once : (unit : List RawFunction) (one other : CheckFault) → Broken unit one → Broken unit other → one ≡ other
-broken_once unit one other (no_function _) (no_function _) = refl
-broken_once unit one other (no_function empty) (many_functions n two is) = absurd (let zero : length unit ≡ 0 = ap length empty in omega (arith, zero, is))
-broken_once unit one other (no_function empty) (one_fault f first holds is) = absurd (one_is_not_none unit f holds empty)
-broken_once unit one other (no_function empty) (many_variables f n holds is count) = absurd (one_is_not_none unit f holds empty)
-broken_once unit one other (many_functions n two is) (no_function empty) = absurd (let zero : length unit ≡ 0 = ap length empty in omega (arith, zero, is))
-broken_once unit one other (many_functions n two is) (many_functions m _ also) = ap (λ (n : ℕ). check.ManyFunctions n) (sym is ∙ also)
-broken_once unit one other (many_functions n two is) (one_fault f first holds _) = absurd (one_is_not_many unit f n holds two is)
-broken_once unit one other (many_functions n two is) (many_variables f _ holds _ _) = absurd (one_is_not_many unit f n holds two is)
-broken_once unit one other (one_fault f first holds is) (no_function empty) = absurd (one_is_not_none unit f holds empty)
-broken_once unit one other (one_fault f first holds _) (many_functions n two is) = absurd (one_is_not_many unit f n holds two is)
-broken_once unit one other (one_fault f first holds is) (one_fault g second also_holds also) =
-    let same = one_function unit f g holds also_holds in
-    let clash : Some first ≡ Some second = sym is ∙ ap fault_in same ∙ also in cc
-broken_once unit one other (one_fault f first holds is) (many_variables g n also_holds also _) =
-    absurd (let clash : Some first ≡ None = sym is ∙ ap fault_in (one_function unit f g holds also_holds) ∙ also in cc)
-broken_once unit one other (many_variables f n holds is count) (no_function empty) = absurd (one_is_not_none unit f holds empty)
-broken_once unit one other (many_variables f n holds is count) (many_functions m two also) = absurd (one_is_not_many unit f m holds two also)
-broken_once unit one other (many_variables f n holds is _) (one_fault g second also_holds also) =
-    absurd (let clash : None ≡ Some second = sym is ∙ ap fault_in (one_function unit f g holds also_holds) ∙ also in cc)
-broken_once unit one other (many_variables f n holds is count) (many_variables g m also_holds also also_count) =
-    ap (λ (n : ℕ). check.ManyVariables n) (sym count ∙ ap (λ (f : RawFunction). length (variables_of f)) (one_function unit f g holds also_holds) ∙ also_count)
-
-unchecked_once : (text : List ℕ) (one other : CheckFault) → IsUnchecked text one → IsUnchecked text other → one ≡ other
-unchecked_once text one other is also =
-    let same = parsed_once text is.unit also.unit is.parses also.parses in
-    broken_once also.unit one other (broken also.unit one is.no_want (subst (λ (unit : List RawFunction). IsCheckFault unit one) same is.reason))
-    (broken also.unit other also.no_want also.reason)
-
-first_fault_once : (text : List ℕ) (one other : TokenFault) → IsFirstFault text one → IsFirstFault text other → one ≡ other
-first_fault_once text one other is also = let clash : Some one ≡ Some other = (answers-one text is.0 also.0 (Some one) (Some other) is.1 also.1).1 in cc
-
-not_both : (text : List ℕ) (faulty : TokenFault) (tokens : List Token) → IsFirstFault text faulty → AreTokens text tokens → ⊥
-not_both text faulty tokens is are = let clash : Some faulty ≡ None = (answers-one text is.0 tokens (Some faulty) None is.1 are).1 in cc
-
--- The same of the fault with the file's name.
 refused_once : (name text : List ℕ) (one other : Fault) → RefusesText name text one → RefusesText name text other → one ≡ other
-refused_once name text (fault.Token a one) (fault.Token b other) is also = rw (is.0, also.0, first_fault_once text one other is.1 also.1) refl
-refused_once name text (fault.Token a one) (fault.Reader b other) is also = absurd (not_both text one also.1.tokens is.1 also.1.are)
-refused_once name text (fault.Token a one) (fault.Check b other) is also = absurd (not_both text one also.1.parses.tokens is.1 also.1.parses.are)
-refused_once name text (fault.Reader a one) (fault.Token b other) is also = absurd (not_both text other is.1.tokens also.1 is.1.are)
-refused_once name text (fault.Reader a one) (fault.Reader b other) is also = rw (is.0, also.0, unread_once text one other is.1 also.1) refl
-refused_once name text (fault.Reader a one) (fault.Check b other) is also = absurd (not_unread text also.1.unit one also.1.parses is.1)
-refused_once name text (fault.Check a one) (fault.Token b other) is also = absurd (not_both text other is.1.parses.tokens also.1 is.1.parses.are)
-refused_once name text (fault.Check a one) (fault.Reader b other) is also = absurd (not_unread text is.1.unit other is.1.parses also.1)
-refused_once name text (fault.Check a one) (fault.Check b other) is also = rw (is.0, also.0, unchecked_once text one other is.1 also.1) refl
+refused_once name text (fault.Token a one) (fault.Token b other) is also =
+    let same = refusal_once text (refusal.Token one) (refusal.Token other) is.1 also.1 in
+    let inner : one ≡ other = cc in rw (is.0, also.0, inner) refl
+refused_once name text (fault.Token a one) (fault.Reader b other) is also =
+    absurd (let clash = refusal_once text (refusal.Token one) (refusal.Reader other) is.1 also.1 in cc)
+refused_once name text (fault.Token a one) (fault.Check b other) is also =
+    absurd (let clash = refusal_once text (refusal.Token one) (refusal.Check other) is.1 also.1 in cc)
+refused_once name text (fault.Reader a one) (fault.Token b other) is also =
+    absurd (let clash = refusal_once text (refusal.Reader one) (refusal.Token other) is.1 also.1 in cc)
+refused_once name text (fault.Reader a one) (fault.Reader b other) is also =
+    let same = refusal_once text (refusal.Reader one) (refusal.Reader other) is.1 also.1 in
+    let inner : one ≡ other = cc in rw (is.0, also.0, inner) refl
+refused_once name text (fault.Reader a one) (fault.Check b other) is also =
+    absurd (let clash = refusal_once text (refusal.Reader one) (refusal.Check other) is.1 also.1 in cc)
+refused_once name text (fault.Check a one) (fault.Token b other) is also =
+    absurd (let clash = refusal_once text (refusal.Check one) (refusal.Token other) is.1 also.1 in cc)
+refused_once name text (fault.Check a one) (fault.Reader b other) is also =
+    absurd (let clash = refusal_once text (refusal.Check one) (refusal.Reader other) is.1 also.1 in cc)
+refused_once name text (fault.Check a one) (fault.Check b other) is also =
+    let same = refusal_once text (refusal.Check one) (refusal.Check other) is.1 also.1 in
+    let inner : one ≡ other = cc in rw (is.0, also.0, inner) refl
 refused_once name text (fault.Token a one) fault.Usage is also = absurd also
 refused_once name text (fault.Token a one) (fault.Read b) is also = absurd also
 refused_once name text (fault.Token a one) (fault.TooLong b) is also = absurd also
@@ -218,7 +148,7 @@ apart_judged command a b f g index pair o short_a short_b reads reads' same belo
 
 -- ---- from the words on
 
-module _ (words : List (List ℕ)) (text : List ℕ → Option (List ℕ)) (before after : List ℕ → ℕ) (told : AreTold words text before after) where
+module _ (words : List (List ℕ)) (text : List ℕ → Option (List ℕ)) (before after : List ℕ → ℕ) (told : AreTold words text) where
   -- the told texts of a command's files
   abbrev a_of : (command : Command) → IsCommand words command → List ℕ
   a_of command commands = (told.first command commands).0
@@ -234,59 +164,60 @@ module _ (words : List (List ℕ)) (text : List ℕ → Option (List ℕ)) (befo
 
   -- The outcome is the one that these words lead to without a command, or with this one.
   data Settled : Outcome → Type 0 where
-    nothing : ((command : Command) → ¬ IsCommand words command) → Settled (outcome.Refused fault.Usage)
+    nothing : AreNoCommandLine words → Settled (outcome.Refused fault.Usage)
     judged : (command : Command) (a b : List ℕ) (o : Outcome) → IsCommand words command → text command.first ≡ Some a → text command.second ≡ Some b
         → Judged command a b o → Settled o
 
   settled_by : (command : Command) (commands : IsCommand words command) (o : Outcome) → Judged command (a_of command commands) (b_of command commands) o → Settled o
   settled_by command commands o is = judged command (a_of command commands) (b_of command commands) o commands (told.first command commands).1 (told.second command commands).1 is
 
-  unread_first : (command : Command) (commands : IsCommand words command) (f : Fault) → RefusesRead text before after command.first f
-      → Judged command (a_of command commands) (b_of command commands) (outcome.Refused f)
-  unread_first command commands (fault.Read named) refuses = absurd (told.quiet command.first refuses.1)
-  unread_first command commands (fault.TooLong named) refuses =
+  unread_first : (command : Command) (commands : IsCommand words command) (f : Fault) → fault_status f ≢ 4
+      → RefusesRead text before after command.first f → Judged command (a_of command commands) (b_of command commands) (outcome.Refused f)
+  unread_first command commands (fault.Read named) read refuses = absurd (read refl)
+  unread_first command commands (fault.TooLong named) read refuses =
       let over : longest < length (a_of command commands) = subst IsLong (told.first command commands).1 refuses.1 in
       subst (λ (name : List ℕ). Judged command (a_of command commands) (b_of command commands) (outcome.Refused (fault.TooLong name))) (sym refuses.0) (first_long over)
-  unread_first command commands fault.Usage refuses = absurd refuses
-  unread_first command commands (fault.Token named inner) refuses = absurd refuses
-  unread_first command commands (fault.Reader named inner) refuses = absurd refuses
-  unread_first command commands (fault.Check named inner) refuses = absurd refuses
-  unread_first command commands (fault.Different arity) refuses = absurd refuses
+  unread_first command commands fault.Usage read refuses = absurd refuses
+  unread_first command commands (fault.Token named inner) read refuses = absurd refuses
+  unread_first command commands (fault.Reader named inner) read refuses = absurd refuses
+  unread_first command commands (fault.Check named inner) read refuses = absurd refuses
+  unread_first command commands (fault.Different arity) read refuses = absurd refuses
 
-  unread_second : (command : Command) (commands : IsCommand words command) (f : Fault) → length (a_of command commands) ≤ longest → RefusesRead text before after command.second f
-      → Judged command (a_of command commands) (b_of command commands) (outcome.Refused f)
-  unread_second command commands (fault.Read named) short refuses = absurd (told.quiet command.second refuses.1)
-  unread_second command commands (fault.TooLong named) short refuses =
+  unread_second : (command : Command) (commands : IsCommand words command) (f : Fault) → fault_status f ≢ 4
+      → length (a_of command commands) ≤ longest → RefusesRead text before after command.second f → Judged command (a_of command commands) (b_of command commands) (outcome.Refused f)
+  unread_second command commands (fault.Read named) read short refuses = absurd (read refl)
+  unread_second command commands (fault.TooLong named) read short refuses =
       let over : longest < length (b_of command commands) = subst IsLong (told.second command commands).1 refuses.1 in
       subst (λ (name : List ℕ). Judged command (a_of command commands) (b_of command commands) (outcome.Refused (fault.TooLong name))) (sym refuses.0) (second_long short over)
-  unread_second command commands fault.Usage short refuses = absurd refuses
-  unread_second command commands (fault.Token named inner) short refuses = absurd refuses
-  unread_second command commands (fault.Reader named inner) short refuses = absurd refuses
-  unread_second command commands (fault.Check named inner) short refuses = absurd refuses
-  unread_second command commands (fault.Different arity) short refuses = absurd refuses
+  unread_second command commands fault.Usage read short refuses = absurd refuses
+  unread_second command commands (fault.Token named inner) read short refuses = absurd refuses
+  unread_second command commands (fault.Reader named inner) read short refuses = absurd refuses
+  unread_second command commands (fault.Check named inner) read short refuses = absurd refuses
+  unread_second command commands (fault.Different arity) read short refuses = absurd refuses
 
-  settled : (o : Outcome) → Leads words text before after o → Settled o
-  settled o (no_command none) = nothing none
-  settled o (first_unread command f commands refuses) = settled_by command commands _ (unread_first command commands f refuses)
-  settled o (second_unread command bytes f commands read refuses) =
-      settled_by command commands _ (unread_second command commands f (read_told command.first bytes _ (told.first command commands).1 read).1 refuses)
-  settled o (first_refused files f refuses) =
+  -- The outcome is no failed read.
+  settled : (o : Outcome) → status_of o ≢ 4 → Leads words text before after o → Settled o
+  settled o is_read (no_command none) = nothing none
+  settled o is_read (first_unread command f commands refuses) = settled_by command commands _ (unread_first command commands f is_read refuses)
+  settled o is_read (second_unread command bytes f commands read refuses) =
+      settled_by command commands _ (unread_second command commands f is_read (read_told command.first bytes _ (told.first command commands).1 read).1 refuses)
+  settled o is_read (first_refused files f refuses) =
       let first = read_told files.command.first files.first_text _ (told.first files.command files.commands).1 files.first_read in
       let second = read_told files.command.second files.second_text _ (told.second files.command files.commands).1 files.second_read in
       settled_by files.command files.commands _ (first_bad f first.1 second.1 (subst (λ (list : List ℕ). RefusesText files.command.first list f) first.0 refuses))
-  settled o (second_refused files made f reads refuses) =
+  settled o is_read (second_refused files made f reads refuses) =
       let first = read_told files.command.first files.first_text _ (told.first files.command files.commands).1 files.first_read in
       let second = read_told files.command.second files.second_text _ (told.second files.command files.commands).1 files.second_read in
       settled_by files.command files.commands _ (second_bad made f first.1 second.1 (subst (λ (list : List ℕ). Reads list made) first.0 reads)
       (subst (λ (list : List ℕ). RefusesText files.command.second list f) second.0 refuses))
-  settled o (other_arity functions differ) =
+  settled o is_read (other_arity functions differ) =
       let files = functions.files in
       let first = read_told files.command.first files.first_text _ (told.first files.command files.commands).1 files.first_read in
       let second = read_told files.command.second files.second_text _ (told.second files.command files.commands).1 files.second_read in
       settled_by files.command files.commands _ (uneven functions.first functions.second first.1 second.1
       (subst (λ (list : List ℕ). Reads list functions.first) first.0 functions.first_parsed)
       (subst (λ (list : List ℕ). Reads list functions.second) second.0 functions.second_parsed) differ)
-  settled o (compared comparable e compares) =
+  settled o is_read (compared comparable e compares) =
       let functions = comparable.functions in
       let files = functions.files in
       let first = read_told files.command.first files.first_text _ (told.first files.command files.commands).1 files.first_read in
@@ -321,14 +252,14 @@ module _ (words : List (List ℕ)) (text : List ℕ → Option (List ℕ)) (befo
       (subst (λ (c : Command). different.index < c.settings.samples) same different.below)
       (subst (λ (c : Command). TellsApart (comparison functions.first functions.second c.settings) different.index different.pair) same different.apart) is
 
--- Words and told texts lead to one outcome at most, where no read fails.
-pub outcome_once : (words : List (List ℕ)) (text : List ℕ → Option (List ℕ)) (before after : List ℕ → ℕ) (one other : Outcome)
-    → AreTold words text before after → Leads words text before after one → Leads words text before after other → one ≡ other
-outcome_once words text before after one other told is also =
-    settled_once words text before after told one other (settled words text before after told one is) (settled words text before after told other also)
+-- Words and told texts lead to one outcome at most, apart from a failed read.
+pub outcome_once : HasOneOutcome
+outcome_once words text before after one other told is also is_read is_read' =
+    settled_once words text before after told one other (settled words text before after told one is_read is)
+    (settled words text before after told other is_read' also)
 
--- Where a sample tells the functions apart, that is what the words and the told texts lead to.
+-- Where a sample tells the functions apart, that is what the words and the told texts lead to, unless a read failed.
 pub apart_once : (words : List (List ℕ)) (text : List ℕ → Option (List ℕ)) (before after : List ℕ → ℕ) (o : Outcome)
-    → AreTold words text before after → SampleDiffers words text → Leads words text before after o → status_of o ≡ 1
-apart_once words text before after o told different is =
-    apart_settled words text before after told different o (settled words text before after told o is)
+    → AreTold words text → SampleDiffers words text → Leads words text before after o → status_of o ≢ 4 → status_of o ≡ 1
+apart_once words text before after o told different is is_read =
+    apart_settled words text before after told different o (settled words text before after told o is_read is)

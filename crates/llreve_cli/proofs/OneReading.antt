@@ -1,10 +1,10 @@
 -- A text is read as one function at most, and a text that is read as one is not refused.
-use Rattle.std.proofs.Common.{◌≡◌, ◌≢◌, ℕ, ◌≤◌, List, [], ◌∷◌, length, Some, None, Result, Ok, Err, refl, sym, ap, ◌∙◌, subst, arith}
-use Rattle.std.specs.Prelude.{IfOk, IfErr, MatchResult}
+use Rattle.std.proofs.Common.{◌≡◌, ◌≢◌, ℕ, ◌≤◌, List, [], ◌∷◌, length, Some, None, refl, sym, ap, ◌∙◌, subst, arith}
 use Rattle.c_ast.specs.Function.{Function}
 use Rattle.c_ast.specs.RawTree.{RawFunction}
 use Rattle.c_tokens.specs.declared.token.Token.{Token}
-use Rattle.c_tokens.specs.Tokens.{AreTokens}
+use Rattle.c_tokens.specs.declared.fault.TokenFault.{TokenFault}
+use Rattle.c_tokens.specs.Tokens.{AreTokens, IsFirstFault}
 use Rattle.c_tokens.proofs.OneAnswer.{answers-one}
 use Rattle.c_reader.specs.declared.fault.ReadFault.{ReadFault}
 use Rattle.c_reader.specs.declared.fault.ReadFault.TheVariants as read
@@ -16,7 +16,7 @@ use Rattle.c_check.proofs.Checking.{same_function}
 use Rattle.c_check.specs.Checked.{HoldsOne, IsCheckFault, Checks, fault_in, variables_of}
 use Rattle.llreve_cli.specs.declared.function.TextFault.{TextFault}
 use Rattle.llreve_cli.specs.declared.function.TextFault.TheVariants as refusal
-use Rattle.llreve_cli.specs.Reads.{Parses, Reads, IsReadFault, IsUnread, IsRefusal, IsTextFault, HasOneReading}
+use Rattle.llreve_cli.specs.Reads.{Parses, Reads, IsReadFault, IsUnread, IsRefusal, HasOneReading}
 
 -- ---- one tree
 
@@ -57,6 +57,10 @@ no_check_fault unit made check.Memory checks want reason = want refl
 
 -- ---- a text that is read is not refused
 
+-- A text with tokens has no faulty place.
+pub not_both : (text : List ℕ) (faulty : TokenFault) (tokens : List Token) → IsFirstFault text faulty → AreTokens text tokens → ⊥
+not_both text faulty tokens is are = let clash : Some faulty ≡ None = (answers-one text is.0 tokens (Some faulty) None is.1 are).1 in cc
+
 pub not_unread : (text : List ℕ) (unit : List RawFunction) (fault : ReadFault) → Parses text unit → IsUnread text fault → ⊥
 not_unread text unit fault parses unread =
     let same = tokens_once text unread.tokens parses.tokens unread.are parses.are in
@@ -68,8 +72,7 @@ not_unread text unit fault parses unread =
     on read.Memory reason = reason
 
 pub not_refused : (text : List ℕ) (made : Function) (fault : TextFault) → Reads text made → IsRefusal text fault → ⊥
-not_refused text made (refusal.Token fault) reads first =
-    let clash : Some fault ≡ None = (answers-one text first.0 reads.parses.tokens (Some fault) None first.1 reads.parses.are).1 in cc
+not_refused text made (refusal.Token fault) reads first = not_both text fault reads.parses.tokens first reads.parses.are
 not_refused text made (refusal.Reader fault) reads unread = not_unread text reads.unit fault reads.parses unread
 not_refused text made (refusal.Check fault) reads unchecked =
     let same = parsed_once text unchecked.unit reads.unit unchecked.parses reads.parses in
@@ -85,12 +88,3 @@ pub reading_once : HasOneReading
 reading_once text first second one other =
     let same = parsed_once text one.unit other.unit one.parses other.parses in
     checked_once other.unit first second (subst (λ (unit : List RawFunction). Checks unit first) same one.checks) other.checks
-
--- A text that is read as a function gives it.
-pub only_function : (text : List ℕ) (result : Result Function TextFault) → IfOk result (Reads text) → IfErr result (IsTextFault text)
-    → (made : Function) → Reads text made → MatchResult result (λ given. given ≡ made) (λ fault. fault ≡ refusal.Memory)
-only_function text (Ok given) read refused made reads = reading_once text given made read reads
-only_function text (Err (refusal.Token fault)) read refused made reads = absurd (not_refused text made (refusal.Token fault) reads refused)
-only_function text (Err (refusal.Reader fault)) read refused made reads = absurd (not_refused text made (refusal.Reader fault) reads refused)
-only_function text (Err (refusal.Check fault)) read refused made reads = absurd (not_refused text made (refusal.Check fault) reads refused)
-only_function text (Err refusal.Memory) read refused made reads = refl

@@ -8,7 +8,7 @@ use Rattle.report.specs.declared.early.Early.{Early}
 use Rattle.report.specs.declared.early.Early.TheVariants as early
 use Rattle.llreve_cli.specs.Samples.{TellsApart, IsAlike, AreAlike, IsDifference, AreAllAlike}
 use Rattle.llreve_cli.specs.Compare.{HaveOneValue, Compares}
-use Rattle.llreve_cli.specs.Told.{early_status}
+use Rattle.llreve_cli.specs.Written.{early_status}
 use Rattle.llreve_cli.proofs.Sampling.{alike_not_apart}
 
 module _ (subject : Comparison) where

@@ -1,8 +1,9 @@
 -- What the statuses tell.
-use Rattle.std.proofs.Common.{◌≡◌, ◌≢◌, ℕ, ◌<◌, ◌≤◌, suc, ◌∷◌, [], List, Option, Some, None, ℤ, refl, sym, subst, arith}
-use Rattle.std.specs.Io.KnownBytes.{Appends}
+use Rattle.std.proofs.Common.{◌≡◌, ◌≢◌, ℕ, ◌<◌, ◌≤◌, suc, ◌∷◌, [], List, Option, Some, None, ℤ, refl, sym, ◌∙◌, subst, arith, ◌⊎◌, inl, inr, append-nil}
+use Rattle.std.specs.Io.KnownBytes.{Appends, Keeps}
 use Rattle.std.specs.List.{All}
 use Rattle.std.proofs.lemmas.List.Elements.{All-cons}
+use Rattle.re_base.specs.Causes.{Rose}
 use Rattle.c_ast.specs.declared.place.Side.{Side}
 use Rattle.c_ast.specs.declared.place.Side.TheVariants as side
 use Rattle.c_ast.specs.Comparison.{Comparison}
@@ -17,15 +18,15 @@ use Rattle.report.specs.declared.fault.Fault.{Fault}
 use Rattle.report.specs.declared.fault.Fault.TheVariants as fault
 use Rattle.report.specs.Samples.{IsKeptSample}
 use Rattle.report.specs.Early.{IsKeptEarly, early_text}
-use Rattle.report.specs.Faults.{IsKept}
+use Rattle.report.specs.Faults.{IsKept, fault_text}
 use Rattle.llreve_cli.specs.declared.outcome.Outcome.{Outcome}
 use Rattle.llreve_cli.specs.declared.outcome.Outcome.TheVariants as outcome
 use Rattle.llreve_cli.specs.Samples.{IsAlike, AreAlike, IsDifference}
 use Rattle.llreve_cli.specs.Compare.{Compares}
 use Rattle.llreve_cli.specs.Leads.{AreComparable, subject_of, RefusesRead, RefusesText, Leads, no_command, first_unread, second_unread, first_refused, second_refused, other_arity, compared}
-use Rattle.llreve_cli.specs.Told.{fault_status, early_status, IsKeptOutcome}
-use Rattle.llreve_cli.specs.Tells.{Tells}
-use Rattle.llreve_cli.specs.Answers.{AreEquivalent, AreDifferent, AreUnknown}
+use Rattle.llreve_cli.specs.Written.{fault_status, early_status, IsKeptOutcome}
+use Rattle.llreve_cli.specs.Tells.{Cut, Tells}
+use Rattle.llreve_cli.specs.Answers.{AreEquivalent, AreDifferent, AreUnknown, AreRefused, AreUnread}
 use Rattle.llreve_cli.proofs.Reading.{first_fault-no_want, unread-no_want}
 
 -- ---- nothing that is told is want of memory
@@ -82,6 +83,12 @@ leads_kept words text before after o (compared comparable e compares) = early_ke
 
 -- ---- what a verdict says
 
+-- Where nothing is appended, what was written is kept.
+nothing_appended : (old new : Option (List ℕ)) → Appends old new [] → Keeps old new
+nothing_appended None new same = tt
+nothing_appended (Some bytes) None same = absurd same
+nothing_appended (Some bytes) (Some written) same = same ∙ append-nil bytes
+
 -- A fault has a status of its own.
 refused-status : (f : Fault) → 3 ≤ fault_status f
 refused-status fault.Usage = omega arith
@@ -92,7 +99,50 @@ refused-status (fault.Reader name inner) = omega arith
 refused-status (fault.Check name inner) = omega arith
 refused-status (fault.Different arity) = omega arith
 
+-- A verdict has a status below.
+verdict-status : (e : Early) → early_status e < 3
+verdict-status early.Equivalent = omega arith
+verdict-status (early.Different index input first second) = omega arith
+verdict-status (early.Unknown samples) = omega arith
+
+-- No text is refused by a failed read.
+no_failed_read : (name text : List ℕ) (f : Fault) (failed : List ℕ) → f ≡ fault.Read failed → ¬ RefusesText name text f
+no_failed_read name text fault.Usage failed same refuses = refuses
+no_failed_read name text (fault.Read named) failed same refuses = refuses
+no_failed_read name text (fault.TooLong named) failed same refuses = refuses
+no_failed_read name text (fault.Token named inner) failed same refuses = cc
+no_failed_read name text (fault.Reader named inner) failed same refuses = cc
+no_failed_read name text (fault.Check named inner) failed same refuses = cc
+no_failed_read name text (fault.Different arity) failed same refuses = refuses
+
+-- A refusal by a failed read has a file whose count of faults rose.
+read_rose : (text : List ℕ → Option (List ℕ)) (before after : List ℕ → ℕ) (name : List ℕ) (f : Fault) (failed : List ℕ) → f ≡ fault.Read failed
+    → RefusesRead text before after name f → Rose (before failed) (after failed)
+read_rose text before after name (fault.Read named) failed same refuses =
+    let is : failed ≡ name = let named_so : named ≡ failed = cc in sym named_so ∙ refuses.0 in
+    subst (λ (n : List ℕ). Rose (before n) (after n)) (sym is) refuses.1
+read_rose text before after name (fault.TooLong named) failed same refuses = absurd cc
+read_rose text before after name fault.Usage failed same refuses = absurd refuses
+read_rose text before after name (fault.Token named inner) failed same refuses = absurd refuses
+read_rose text before after name (fault.Reader named inner) failed same refuses = absurd refuses
+read_rose text before after name (fault.Check named inner) failed same refuses = absurd refuses
+read_rose text before after name (fault.Different arity) failed same refuses = absurd refuses
+
 module _ (words : List (List ℕ)) (text : List ℕ → Option (List ℕ)) (before after : List ℕ → ℕ) where
+  leads-failed : (o : Outcome) → Leads words text before after o → (f : Fault) (name : List ℕ) → o ≡ outcome.Refused f → f ≡ fault.Read name
+      → Rose (before name) (after name)
+  leads-failed o (no_command _) f name same read = absurd (let clash : fault.Usage ≡ fault.Read name = cc in cc)
+  leads-failed o (first_unread command why _ refuses) f name same read =
+      read_rose text before after command.first why name (let equal : why ≡ f = cc in equal ∙ read) refuses
+  leads-failed o (second_unread command bytes why _ _ refuses) f name same read =
+      read_rose text before after command.second why name (let equal : why ≡ f = cc in equal ∙ read) refuses
+  leads-failed o (first_refused files why refuses) f name same read =
+      absurd (no_failed_read files.command.first files.first_text why name (let equal : why ≡ f = cc in equal ∙ read) refuses)
+  leads-failed o (second_refused files _ why _ refuses) f name same read =
+      absurd (no_failed_read files.command.second files.second_text why name (let equal : why ≡ f = cc in equal ∙ read) refuses)
+  leads-failed o (other_arity _ _) f name same read = absurd cc
+  leads-failed o (compared _ _ _) f name same read = absurd cc
+
   -- a verdict of functions that can be compared
   abbrev Verdict : Early → Type 0
   Verdict e = (comparable : AreComparable words text) × Compares (subject_of comparable) e
@@ -161,3 +211,55 @@ module _ (words : List (List ℕ)) (text : List ℕ → Option (List ℕ)) (befo
         on (early.Equivalent, same, verdict, told) = absurd (omega (arith, same, is))
         on (early.Different index input first second, same, verdict, told) = absurd (omega (arith, same, is))
         on (early.Unknown samples, same, verdict, told) = (record { comparable = verdict.0; samples = samples; unknown = verdict.1 }, told)
+
+    -- ---- what a refusal says
+
+    abbrev ToldRefusal : Fault → Type 0
+    ToldRefusal f = Leads words text before after (outcome.Refused f) × Keeps out out' × Appends err err' (fault_text f)
+
+    -- A status of 3 or 4 tells a refusal.
+    refusal-told : (o : Outcome) → Leads words text before after o → Tells o out out' err err' p p' q q' status → 3 ≤ status → status ≤ 4
+        → (f : Fault) × (fault_status f ≡ status) × ToldRefusal f
+    refusal-told (outcome.Verdict e) leads tells low high =
+        absurd (let whole = tells.whole (λ e. omega arith) (λ e. omega arith) in omega (arith, whole.0, verdict-status e))
+    refusal-told (outcome.Refused f) leads tells low high =
+        let whole = tells.whole (λ e. omega arith) (λ e. omega arith) in (f, sym whole.0, (leads, nothing_appended out out' whole.1, whole.2))
+
+    pub refused-told : (o : Outcome) → Leads words text before after o → Tells o out out' err err' p p' q q' status → status ≡ 3
+        → (r : AreRefused words text before after) × Keeps out out' × Appends err err' (fault_text r.fault)
+    refused-told o leads tells is =
+        let told = refusal-told o leads tells (omega arith) (omega arith) in (
+          record { fault = told.0; leads = told.2.0; no_read = λ four. omega (arith, four, told.1, is) },
+          told.2.1,
+          told.2.2,
+        )
+
+    pub unread-told : (o : Outcome) → Leads words text before after o → Tells o out out' err err' p p' q q' status → status ≡ 4
+        → (u : AreUnread words text before after) × Keeps out out' × Appends err err' (fault_text (fault.Read u.name))
+    unread-told o leads tells is =
+        let told = refusal-told o leads tells (omega arith) (omega arith) in on told.0 (told.1 ∙ is) told.2
+      where
+        on : (f : Fault) → fault_status f ≡ 4 → ToldRefusal f
+            → (u : AreUnread words text before after) × Keeps out out' × Appends err err' (fault_text (fault.Read u.name))
+        on (fault.Read name) same told = (
+          record {
+            name = name;
+            failed = leads-failed (outcome.Refused (fault.Read name)) told.0 (fault.Read name) name refl refl;
+            leads = told.0;
+          },
+          told.1,
+          told.2,
+        )
+        on fault.Usage same told = absurd (omega (arith, same))
+        on (fault.TooLong name) same told = absurd (omega (arith, same))
+        on (fault.Token name inner) same told = absurd (omega (arith, same))
+        on (fault.Reader name inner) same told = absurd (omega (arith, same))
+        on (fault.Check name inner) same told = absurd (omega (arith, same))
+        on (fault.Different arity) same told = absurd (omega (arith, same))
+
+-- ---- what a failed write says
+
+-- One of the two streams counted a fault.
+pub cut_rose : (out out' err err' : Option (List ℕ)) (p p' q q' : ℕ) (o : Outcome) → Cut o out out' err err' p p' q q' → Rose p p' ⊎ Rose q q'
+cut_rose out out' err err' p p' q q' (outcome.Verdict e) cut = inl cut.0
+cut_rose out out' err err' p p' q q' (outcome.Refused f) cut = inr cut.0

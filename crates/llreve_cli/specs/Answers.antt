@@ -1,5 +1,5 @@
 -- What the statuses say of the two files, and what is exact.
-use Rattle.std.specs.Prelude.{◌≡◌, ℕ, ◌<◌, List, Option, Some, ℤ}
+use Rattle.std.specs.Prelude.{◌≡◌, ◌≢◌, ℕ, ◌<◌, List, Option, Some, ℤ}
 use Rattle.re_base.specs.Causes.{Rose}
 use Rattle.c_ast.specs.Function.{program_of}
 use Rattle.c_ast.specs.Returns.{Returns}
@@ -7,7 +7,11 @@ use Rattle.c_ast.specs.declared.trace.Pair.{Pair}
 use Rattle.command_line.specs.declared.words.Command.{Command}
 use Rattle.command_line.specs.CommandLine.{IsCommand}
 use Rattle.trace_pair.specs.declared.skipped.Skipped.{Skipped}
+use Rattle.report.specs.declared.fault.Fault.{Fault}
+use Rattle.report.specs.declared.fault.Fault.TheVariants.{Read}
 use Rattle.llreve_cli.specs.declared.outcome.Outcome.{Outcome}
+use Rattle.llreve_cli.specs.declared.outcome.Outcome.TheVariants.{Refused}
+use Rattle.llreve_cli.specs.Written.{fault_status, status_of}
 use Rattle.llreve_cli.specs.Compare.{HaveOneValue, IsUnknown}
 use Rattle.llreve_cli.specs.Samples.{TellsApart, IsDifference}
 use Rattle.llreve_cli.specs.Leads.{AreComparable, subject_of, Leads}
@@ -42,13 +46,25 @@ pub record SampleDiffers (words : List (List ℕ)) (text : List ℕ → Option (
   pub below : index < comparable.functions.files.command.settings.samples
   pub apart : TellsApart (subject_of comparable) index pair
 
--- The files tell the texts of both names, and no read failed.
-pub record AreTold (words : List (List ℕ)) (text : List ℕ → Option (List ℕ)) (before after : List ℕ → ℕ) : Type 0 where
+-- The words, a text or the numbers of parameters are refused: of all refusals this is the first in the order of judgement.
+pub record AreRefused (words : List (List ℕ)) (text : List ℕ → Option (List ℕ)) (before after : List ℕ → ℕ) : Type 0 where
+  pub fault : Fault
+  pub leads : Leads words text before after (Refused fault)
+  pub no_read : fault_status fault ≢ 4
+
+-- A file could not be read: of all refusals this is the first in the order of judgement.
+pub record AreUnread (words : List (List ℕ)) (text : List ℕ → Option (List ℕ)) (before after : List ℕ → ℕ) : Type 0 where
+  pub name : List ℕ
+  pub failed : Rose (before name) (after name)
+  pub leads : Leads words text before after (Refused (Read name))
+
+-- The files tell the texts of both names.
+pub record AreTold (words : List (List ℕ)) (text : List ℕ → Option (List ℕ)) : Type 0 where
   pub first : (command : Command) → IsCommand words command → (told : List ℕ) × (text command.first ≡ Some told)
   pub second : (command : Command) → IsCommand words command → (told : List ℕ) × (text command.second ≡ Some told)
-  pub quiet : (name : List ℕ) → ¬ Rose (before name) (after name)
 
--- Words and told texts lead to one outcome at most, where no read fails.
+-- Words and told texts lead to one outcome at most, apart from a failed read.
 abbrev pub HasOneOutcome : Type 0
 HasOneOutcome = (words : List (List ℕ)) (text : List ℕ → Option (List ℕ)) (before after : List ℕ → ℕ) (one other : Outcome)
-    → AreTold words text before after → Leads words text before after one → Leads words text before after other → one ≡ other
+    → AreTold words text → Leads words text before after one → Leads words text before after other
+    → status_of one ≢ 4 → status_of other ≢ 4 → one ≡ other

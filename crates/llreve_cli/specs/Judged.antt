@@ -1,8 +1,7 @@
 -- What the parts of the judgement tell.
 use Rattle.std.specs.Prelude.{◌≡◌, ◌≢◌, ℕ, List, Option}
 use Rattle.c_ast.specs.Function.{Function}
-use Rattle.command_line.specs.declared.words.Command.{Command}
-use Rattle.command_line.specs.CommandLine.{IsCommand}
+use Rattle.command_line.specs.Refused.{AreNoCommandLine}
 use Rattle.report.specs.declared.early.Early.{Early}
 use Rattle.report.specs.declared.fault.Fault.{Fault}
 use Rattle.report.specs.declared.fault.Fault.TheVariants.{Usage, Different}
@@ -11,7 +10,7 @@ use Rattle.llreve_cli.specs.Leads.{Leads, arities}
 
 -- The fault says that the words are no command line.
 abbrev pub RefusesWords : List (List ℕ) → Fault → Type 0
-RefusesWords words Usage = (command : Command) → ¬ IsCommand words command
+RefusesWords words Usage = AreNoCommandLine words
 RefusesWords words _ = ⊥
 
 -- The fault says that the functions have different numbers of parameters.

@@ -6,15 +6,16 @@ use Rattle.re_base.specs.Told.{IsWhole, IsLong, longest}
 use Rattle.c_ast.specs.Function.{Function}
 use Rattle.c_ast.specs.Comparison.{Comparison, comparison}
 use Rattle.c_ast.specs.declared.subject.Arity.{Arity}
-use Rattle.c_tokens.specs.Tokens.{IsFirstFault}
 use Rattle.command_line.specs.declared.words.Command.{Command}
 use Rattle.command_line.specs.CommandLine.{IsCommand}
+use Rattle.command_line.specs.Refused.{AreNoCommandLine}
 use Rattle.report.specs.declared.early.Early.{Early}
 use Rattle.report.specs.declared.fault.Fault.{Fault}
 use Rattle.report.specs.declared.fault.Fault.TheVariants.{Usage, Read, TooLong, Token, Reader, Check, Different}
 use Rattle.llreve_cli.specs.declared.outcome.Outcome.{Outcome}
 use Rattle.llreve_cli.specs.declared.outcome.Outcome.TheVariants.{Verdict, Refused}
-use Rattle.llreve_cli.specs.Reads.{Reads, IsUnread, IsUnchecked}
+use Rattle.llreve_cli.specs.declared.function.TextFault.TheVariants as refusal
+use Rattle.llreve_cli.specs.Reads.{Reads, IsRefusal}
 use Rattle.llreve_cli.specs.Compare.{Compares}
 
 -- These bytes were read: they are the told text, where one is told, and not too long.
@@ -58,17 +59,16 @@ RefusesRead text before after name (Read named) = (named ≡ name) × Rose (befo
 RefusesRead text before after name (TooLong named) = (named ≡ name) × IsLong (text name)
 RefusesRead text before after name _ = ⊥
 
--- The fault says why the text of the file with this name is no function: its first faulty place, or else what is wrong with
--- its tokens, or else the first rule that is broken.
+-- The fault says why the text of the file with this name is no function.
 abbrev pub RefusesText : List ℕ → List ℕ → Fault → Type 0
-RefusesText name text (Token named fault) = (named ≡ name) × IsFirstFault text fault
-RefusesText name text (Reader named fault) = (named ≡ name) × IsUnread text fault
-RefusesText name text (Check named fault) = (named ≡ name) × IsUnchecked text fault
+RefusesText name text (Token named fault) = (named ≡ name) × IsRefusal text (refusal.Token fault)
+RefusesText name text (Reader named fault) = (named ≡ name) × IsRefusal text (refusal.Reader fault)
+RefusesText name text (Check named fault) = (named ≡ name) × IsRefusal text (refusal.Check fault)
 RefusesText name text _ = ⊥
 
 -- One case an outcome, in the order in which they are judged: each case says that none before it holds.
 pub data Leads (words : List (List ℕ)) (text : List ℕ → Option (List ℕ)) (before after : List ℕ → ℕ) : Outcome → Type 0 where
-  no_command : ((command : Command) → ¬ IsCommand words command) → Leads words text before after (Refused Usage)
+  no_command : AreNoCommandLine words → Leads words text before after (Refused Usage)
   first_unread : (command : Command) (fault : Fault) → IsCommand words command → RefusesRead text before after command.first fault
       → Leads words text before after (Refused fault)
   second_unread : (command : Command) (bytes : List ℕ) (fault : Fault) → IsCommand words command → IsRead (text command.first) bytes

@@ -7,6 +7,6 @@ pub mod Reads
 pub mod Leads
 pub mod Judged
 pub mod Stops
-pub mod Told
+pub mod Written
 pub mod Tells
 pub mod Answers

@@ -1,7 +1,8 @@
 //! The function of a text: its tokens, their tree, and the tree with names resolved.
-ghost use Rattle.std.specs.Prelude.{◌≡◌, ◌≤◌, length, IfOk, IfErr, MatchResult};
+ghost use Rattle.std.specs.Prelude.{◌≡◌, ◌≤◌, ◌⊎◌, length, IfOk, IfErr, MatchResult};
 ghost use Rattle.c_ast.specs.Function.{Function};
-ghost use Rattle.llreve_cli.specs.Reads.{Reads, IsTextFault, HasOneReading};
+ghost use Rattle.llreve_cli.specs.declared.function.TextFault.{TextFault};
+ghost use Rattle.llreve_cli.specs.Reads.{Reads, IsRefusal, IsTextFault, HasOneReading};
 
 use c_ast::Func;
 use c_check::{CheckFault, check};
@@ -87,6 +88,10 @@ pub fn read_function(alloc: Global, text: &[u8]) -> Result<Func, TextFault>
     // A text that is read as a function gives it, unless memory ran out.
     ensures only { (made : Function) → Reads text.now made →
         MatchResult result (λ given. given ≡ made) (λ fault. fault ≡ TextFault.Memory) }
+
+    // A text that is refused gives its refusal, unless memory ran out.
+    ensures only_fault { (fault : TextFault) → IsRefusal text.now fault →
+        MatchResult result (λ given. ⊥) (λ given. (given ≡ fault) ⊎ (given ≡ TextFault.Memory)) }
 {
     reading(alloc, text)
 }

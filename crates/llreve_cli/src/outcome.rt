@@ -1,6 +1,6 @@
 //! What the program tells, and the status that it ends with.
 ghost use Rattle.std.specs.Prelude.{◌≡◌};
-ghost use Rattle.llreve_cli.specs.Told.{early_status, fault_status};
+ghost use Rattle.llreve_cli.specs.Written.{early_status, fault_status};
 
 use report::{Early, Fault};
 
@@ -14,7 +14,7 @@ pub const DIFFERENT: u8 = 1;
 pub const UNKNOWN: u8 = 2;
 
 /// The status of words or a text that is refused.
-pub const USAGE: u8 = 3;
+pub const REFUSED: u8 = 3;
 
 /// The status of a file that could not be read.
 pub const NOT_READ: u8 = 4;
@@ -51,6 +51,6 @@ pub fn fault_status(fault: &Fault) -> u8
 {
     match fault {
         Fault::Read(_) => NOT_READ,
-        _ => USAGE,
+        _ => REFUSED,
     }
 }

@@ -1,5 +1,5 @@
 //! Writing an outcome.
-ghost use Rattle.llreve_cli.specs.Told.{IsKeptOutcome};
+ghost use Rattle.llreve_cli.specs.Written.{IsKeptOutcome};
 ghost use Rattle.llreve_cli.specs.Tells.{Tells};
 
 use crate::outcome::{NO_MEMORY, NOT_WRITTEN, Outcome, early_status, fault_status};

@@ -12,11 +12,15 @@ use trace_pair::Skipped;
 pub enum Early {
     /// No input makes the two functions return differently.
     Equivalent,
-    /// They return differently on the input of the sample with this index.
+    /// They return differently on the input of a sample.
     Different {
+        /// The sample's index, from 0 and below the number of samples. No earlier sample tells the functions apart.
         index: u32,
+        /// The sample's input: the value of each parameter, in order.
         input: Items<i128>,
+        /// What A's function returns.
         first: i128,
+        /// What B's function returns.
         second: i128,
     },
     /// Nothing is known of the two functions. Each sample, by its index, is a pair with equal results (`None`) or was
@@ -75,7 +79,7 @@ fn lines_of(alloc: Global, early: &Early) -> Result<String, AllocError>
     }
 }
 
-/// The lines that tell it.
+/// The lines that tell it. The one error is want of memory.
 pub fn early_text(alloc: Global, early: &Early) -> Result<Vec<u8>, AllocError>
     requires { IsKeptEarly early.now }
     ensures { IfOk result (λ text. text.items ≡ early_text early.now) }

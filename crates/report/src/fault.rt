@@ -115,7 +115,7 @@ fn line_of(alloc: Global, fault: &Fault) -> Result<String, AllocError>
     }
 }
 
-/// The line that tells the fault.
+/// The line that tells the fault. The one error is want of memory.
 pub fn fault_text(alloc: Global, fault: &Fault) -> Result<Vec<u8>, AllocError>
     requires { IsKept fault.now }
     ensures { IfOk result (λ text. text.items ≡ fault_text fault.now) }
