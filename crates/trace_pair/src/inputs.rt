@@ -71,9 +71,10 @@ fn later_input(alloc: Global, seed: u64, index: u32, arity: u32) -> Result<Vec<i
     Ok(values)
 }
 
-/// As many values as `arity`, one for each parameter in their order, each from -20 to 20; or want of memory. The first 5, 25 or 125 indexes, by the number of parameters,
-/// try all choices of 0, 1, 2, -1 and 7 for the first three, the first one changing fastest, with 0 for all others.
-/// Later ones take words of the generator with the settings' seed, on a stream of the index's own.
+/// As many values as `arity`, one for each parameter in their order, each from -20 to 20; or want of memory. The first 5,
+/// 25 or 125 indexes, by the number of parameters, try all choices of 0, 1, 2, -1 and 7 for the first three, the first one
+/// changing fastest, with 0 for all others. Later ones take words of the generator with the settings' seed, on a stream
+/// of the index's own.
 pub fn input(
     alloc: Global,
     settings: &Settings,
