@@ -7,7 +7,7 @@ use Rattle.c_ast.specs.RawTree as raw
 use Rattle.c_ast.specs.RawTree.{RawExpression, RawCondition, RawStatements, RawFunction}
 use Rattle.c_ast.specs.RawShape.{IsShaped}
 use Rattle.c_ast.specs.Tree as tree
-use Rattle.c_ast.specs.Tree.{Expression, Statements, Program}
+use Rattle.c_ast.specs.Tree.{Expression, Statements}
 use Rattle.c_ast.specs.View.{statements_of}
 use Rattle.c_ast.specs.Step.{first_variables}
 use Rattle.c_ast.specs.Formed.{one_if, marks, declarations, AreFormed}

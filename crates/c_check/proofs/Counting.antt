@@ -2,14 +2,14 @@
 use Rattle.std.proofs.Common.{◌≡◌, ℕ, suc, ◌+◌, ◌<◌, ◌≤◌, Bool, true, false, not, ◌&&◌, ◌==◌, ◌∷◌, ◌++◌, length, Some, None, refl, subst, arith, ◌⊎◌, inl, inr, length-append}
 use Rattle.std.proofs.lemmas.List.Elements.{All-tail}
 use Rattle.c_ast.specs.RawTree as raw
-use Rattle.c_ast.specs.RawTree.{RawExpression, RawCondition, RawDeclared, RawStatements}
+use Rattle.c_ast.specs.RawTree.{RawDeclared, RawStatements}
 use Rattle.c_ast.specs.RawShape.{IsShapedDeclarator, AreShaped}
 use Rattle.c_ast.specs.Tree as tree
-use Rattle.c_ast.specs.Tree.{Expression, Statements}
+use Rattle.c_ast.specs.Tree.{Statements}
 use Rattle.c_ast.specs.Step.{Scope, is_in}
 use Rattle.c_ast.specs.Formed.{one_if, declarations}
 use Rattle.c_check.specs.Contents.{declared_by, declared_in}
-use Rattle.c_check.specs.Resolves.{Binding, Bindings, binding, number_of, Counts, one_variable_more, one_loop_more, behind, begins_with_mark, loop_mark, named_mark, first_automatic, followed_by, with_declared, scope_in_for, Resolves, none, declared, declares, initialises, assigns, branches, chooses, while_loop, do_loop, for_loop, breaks, continues, returns, block, empty}
+use Rattle.c_check.specs.Resolves.{Bindings, binding, Counts, one_variable_more, one_loop_more, behind, loop_mark, named_mark, followed_by, scope_in_for, Resolves, none, declared, declares, initialises, assigns, branches, chooses, while_loop, do_loop, for_loop, breaks, continues, returns, block, empty}
 use Rattle.c_check.specs.Resolves as resolves
 use Rattle.c_check.proofs.ForParts.{for_start}
 use Rattle.c_check.proofs.Forming.{Known, known_more, known_set, known_new, same_number, scope_behind, known_in_for}

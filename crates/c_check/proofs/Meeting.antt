@@ -4,9 +4,9 @@ use Rattle.std.specs.Prelude.{option_map, find, bytes_eq}
 use Rattle.std.specs.Option.{option_or}
 use Rattle.c_ast.specs.declared.func.Var.{Var}
 use Rattle.c_ast.specs.RawTree as raw
-use Rattle.c_ast.specs.RawTree.{RawExpression, RawCondition, RawDeclared, RawStatements}
+use Rattle.c_ast.specs.RawTree.{RawExpression, RawCondition, RawStatements}
 use Rattle.c_ast.specs.Tree as tree
-use Rattle.c_ast.specs.Tree.{Expression, Statements}
+use Rattle.c_ast.specs.Tree.{Expression}
 use Rattle.c_check.specs.declared.fault.CheckFault.{CheckFault}
 use Rattle.c_check.specs.declared.fault.CheckFault.TheVariants as fault
 use Rattle.c_check.specs.declared.resolver.Resolver.{Resolver}

@@ -1,9 +1,9 @@
 -- The marks of what the statements of a file stand for are those that the file names, and the automatic ones.
 use Rattle.std.proofs.Common.{◌≡◌, ℕ, suc, ◌+◌, ◌≤◌, Bool, true, false, ◌==◌, List, [], ◌∷◌, ◌++◌, Option, Some, None, refl, sym, ap, ◌∙◌, arith, append_assoc}
 use Rattle.c_ast.specs.RawTree as raw
-use Rattle.c_ast.specs.RawTree.{RawExpression, RawCondition, RawDeclared, RawStatements}
+use Rattle.c_ast.specs.RawTree.{RawExpression, RawCondition, RawStatements}
 use Rattle.c_ast.specs.Tree as tree
-use Rattle.c_ast.specs.Tree.{Expression, Statements}
+use Rattle.c_ast.specs.Tree.{Statements}
 use Rattle.c_ast.specs.Formed.{one_if, is_mark, marks}
 use Rattle.c_check.specs.Contents.{loops_in}
 use Rattle.c_check.specs.Resolves.{Bindings, binding, Counts, one_variable_more, one_loop_more, behind, begins_with_mark, loop_mark, named_mark, first_automatic, followed_by, scope_in_for, Resolves, none, declared, declares, initialises, assigns, branches, chooses, while_loop, do_loop, for_loop, breaks, continues, returns, block, empty}

@@ -4,9 +4,8 @@ use Rattle.std.specs.Prelude.{codes}
 use Rattle.c_ast.specs.declared.expr.BinOp.TheVariants.{Add, Less, Equal}
 use Rattle.c_ast.specs.declared.func.Var.{Var}
 use Rattle.c_ast.specs.RawTree as raw
-use Rattle.c_ast.specs.RawTree.{RawExpression, RawCondition, RawDeclared, RawStatements, RawFunction}
+use Rattle.c_ast.specs.RawTree.{RawExpression, RawDeclared, RawStatements, RawFunction}
 use Rattle.c_ast.specs.Tree as tree
-use Rattle.c_ast.specs.Tree.{Statements}
 use Rattle.c_check.specs.declared.fault.CheckFault.TheVariants as fault
 use Rattle.c_check.specs.Resolves.{constant, variable, binary, stands, Resolves, none, declared, initialises, assigns, branches, while_loop, for_loop, continues, returns, block}
 use Rattle.c_check.specs.Checked.{fault_in, parameters_of, before_body}

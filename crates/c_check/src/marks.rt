@@ -37,9 +37,9 @@ impl Marks {
     pub(crate) fn add(&mut self, mark: u64) -> Result<u32, CheckFault>
         ensures { MatchResult result
             (λ number. (fault_of self.old (Marked mark) ≡ None)
-                × (self.new ≡ mark ∷ self.old) × (number ≡ mark))
+            × (self.new ≡ mark ∷ self.old) × (number ≡ mark))
             (λ first. ¬ (first ≡ fault.Memory) →
-                fault_of self.old (Marked mark) ≡ Some first) }
+            fault_of self.old (Marked mark) ≡ Some first) }
     {
         if mark >= FIRST_AUTOMATIC as u64 {
             return Err(CheckFault::MarkRange(mark));

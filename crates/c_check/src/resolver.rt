@@ -68,7 +68,7 @@ impl Resolver {
     pub(crate) fn declare(&mut self, alloc: Global, var: &Var) -> Result<u32, CheckFault>
         ensures { MatchResult result
             (λ number. (declared_at self.old var.now ≡ Ok self.new)
-                × (number ≡ length self.old.vars))
+            × (number ≡ length self.old.vars))
             (Fails (declared_at self.old var.now)) }
     {
         if self.table.declares(&var.name) {

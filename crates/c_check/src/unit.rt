@@ -38,7 +38,7 @@ struct Parts {
 fn resolve(alloc: Global, func: &RawFunc) -> Result<Parts, CheckFault>
     ensures { MatchResult result
         (λ found. HasParts (function_at (raw_function_of func.now))
-            found.vars (statements_of found.body))
+        found.vars (statements_of found.body))
         (Fails (function_at (raw_function_of func.now))) }
 {
     let mut at = Resolver::new(alloc);

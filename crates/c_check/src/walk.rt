@@ -230,10 +230,10 @@ fn declarators(
 ) -> Result<(), CheckFault>
     ensures { MatchResult result
         (λ _. (in_loop : Bool) →
-            Pushes in_loop (raw.Declare (map raw_declared_of declarators.now))
-            at.old at.new made.old made.new)
+        Pushes in_loop (raw.Declare (map raw_declared_of declarators.now))
+        at.old at.new made.old made.new)
         (λ first. (in_loop : Bool) →
-            FailsIn in_loop (raw.Declare (map raw_declared_of declarators.now)) at.old first) }
+        FailsIn in_loop (raw.Declare (map raw_declared_of declarators.now)) at.old first) }
 {
     for declared in declarators {
         declarator(alloc, at, declared, made)?;
@@ -251,10 +251,10 @@ fn assignment(
 ) -> Result<Stmt, CheckFault>
     ensures { MatchResult result
         (λ stmt. (in_loop : Bool) →
-            Puts in_loop (raw.Assign name.now line (raw_expression_of value.now))
-            at.now at.now stmt)
+        Puts in_loop (raw.Assign name.now line (raw_expression_of value.now))
+        at.now at.now stmt)
         (λ first. (in_loop : Bool) →
-            FailsIn in_loop (raw.Assign name.now line (raw_expression_of value.now)) at.now first) }
+        FailsIn in_loop (raw.Assign name.now line (raw_expression_of value.now)) at.now first) }
 {
     let number = variable(&at.table, name, line)?;
     let value = expression(alloc, &at.table, value)?;
@@ -325,7 +325,7 @@ fn block(
 ) -> Result<Items<Stmt>, CheckFault>
     ensures { Gives (λ found. made at.new (statements_of found)) result
         (closed (statements_at (entered at.old) in_loop
-            (raw_one (raw_put_in_front stmt.now)))) }
+        (raw_one (raw_put_in_front stmt.now)))) }
 {
     at.enter(alloc)?;
     let made = one(alloc, at, in_loop, stmt)?;
@@ -343,7 +343,7 @@ fn block_or_none(
 ) -> Result<Items<Stmt>, CheckFault>
     ensures { Gives (λ found. made at.new (statements_of found)) result
         (closed (statements_at (entered at.old) in_loop
-            (raw_optional (option_map raw_put_in_front stmt.now)))) }
+        (raw_optional (option_map raw_put_in_front stmt.now)))) }
 {
     at.enter(alloc)?;
     let made = one_or_none(alloc, at, in_loop, stmt)?;
@@ -380,11 +380,11 @@ fn while_loop(
 ) -> Result<Stmt, CheckFault>
     ensures { MatchResult result
         (λ stmt. Puts in_loop
-            (raw.While (raw_condition_of cond.now) (raw_one (raw_put_in_front body.now)))
-            at.old at.new stmt)
+        (raw.While (raw_condition_of cond.now) (raw_one (raw_put_in_front body.now)))
+        at.old at.new stmt)
         (FailsIn in_loop
-            (raw.While (raw_condition_of cond.now) (raw_one (raw_put_in_front body.now)))
-            at.old) }
+        (raw.While (raw_condition_of cond.now) (raw_one (raw_put_in_front body.now)))
+        at.old) }
 {
     let before = at.begin_loop()?;
     let found = condition(alloc, at, cond)?;
@@ -409,11 +409,11 @@ fn do_loop(
 ) -> Result<Stmt, CheckFault>
     ensures { MatchResult result
         (λ stmt. Puts in_loop
-            (raw.Do (raw_one (raw_put_in_front body.now)) (raw_condition_of cond.now))
-            at.old at.new stmt)
+        (raw.Do (raw_one (raw_put_in_front body.now)) (raw_condition_of cond.now))
+        at.old at.new stmt)
         (FailsIn in_loop
-            (raw.Do (raw_one (raw_put_in_front body.now)) (raw_condition_of cond.now))
-            at.old) }
+        (raw.Do (raw_one (raw_put_in_front body.now)) (raw_condition_of cond.now))
+        at.old) }
 {
     let before = at.begin_loop()?;
     let made = block(alloc, at, true, body)?;

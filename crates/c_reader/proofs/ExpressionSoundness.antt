@@ -6,7 +6,7 @@ use Rattle.c_tokens.specs.declared.kind.Kind.{Kind}
 use Rattle.c_tokens.specs.declared.kind.Kind.TheVariants as k
 use Rattle.c_tokens.specs.declared.token.Token.{Token}
 use Rattle.c_reader.specs.Expressions as spelled
-use Rattle.c_reader.specs.Expressions.{operator_of, SpellsAt, alone, joined, SpellsExpression, EndsExpression, expression_depth}
+use Rattle.c_reader.specs.Expressions.{operator_of, SpellsAt, alone, joined, SpellsExpression, EndsExpression}
 use Rattle.c_reader.specs.ReadExpressions.{operand_within, further_within, choice_within, operand_at, expression_at}
 use Rattle.c_reader.specs.declared.sign.Sign.TheVariants as sign
 use Rattle.c_reader.specs.Signs.{behind_sign}

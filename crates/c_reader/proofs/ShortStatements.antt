@@ -1,7 +1,6 @@
 -- What the statements in which no other stands put in front of their list, and where they are read.
 use Rattle.std.proofs.Common.{◌≡◌, ◌-◌, ℕ, zero, suc, List, ◌∷◌, refl, ap, ◌∙◌, arith}
 use Rattle.c_ast.specs.RawTree as tree
-use Rattle.c_ast.specs.RawTree.{RawStatements}
 use Rattle.c_ast.specs.RawView.{raw_expression_of, raw_statement_level, raw_put_in_front}
 use Rattle.c_ast.specs.declared.raw.RawExpr.{RawExpr}
 use Rattle.c_ast.specs.declared.raw.RawStmt.{RawStmt, Break, Continue, Return, Mark, fold_out-RawStmt, map-RawStmt, out-RawStmt}

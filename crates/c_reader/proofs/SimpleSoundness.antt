@@ -3,7 +3,7 @@ use Rattle.std.proofs.Common.{◌≡◌, ℕ, zero, suc, pos, ◌≤◌, ◌-◌
 use Rattle.std.proofs.lemmas.Bool.Decides.{nat_tests}
 use Rattle.c_ast.specs.declared.expr.BinOp.{BinOp}
 use Rattle.c_ast.specs.RawTree as tree
-use Rattle.c_ast.specs.RawTree.{RawExpression, RawCondition, RawStatements}
+use Rattle.c_ast.specs.RawTree.{RawCondition}
 use Rattle.c_tokens.specs.declared.kind.Kind.{Kind}
 use Rattle.c_tokens.specs.declared.kind.Kind.TheVariants as k
 use Rattle.c_tokens.specs.declared.token.Token.{Token}
@@ -13,7 +13,7 @@ use Rattle.c_reader.specs.ReadExpressions.{◌>>=◌}
 use Rattle.c_ast.specs.declared.func.Var.{Var}
 use Rattle.c_reader.specs.Declarations.{Statement, SpellsName}
 use Rattle.c_reader.specs.Statements as spelled
-use Rattle.c_reader.specs.Statements.{update_of, step_of, updated, ends_open}
+use Rattle.c_reader.specs.Statements.{update_of, step_of, updated}
 use Rattle.c_reader.specs.Signs.{is_sign, behind_sign}
 use Rattle.c_reader.specs.ReadDeclarations.{shallow_at, name_at, begins_type, declaration_at}
 use Rattle.c_reader.specs.ReadStatements.{step_at, update_by, change_at, simple_by, simple_at, constant_by, constant_at, mark_at, condition_by, condition_at, start_at}

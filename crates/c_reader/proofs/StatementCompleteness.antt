@@ -1,7 +1,7 @@
 -- What spells a statement is read as it, where its depth leaves room.
 use Rattle.std.proofs.Common.{◌≡◌, ℕ, zero, suc, ◌<◌, ◌≤◌, Bool, true, false, ◌||◌, if◌then◌else◌, List, [], ◌∷◌, ◌++◌, length, length-append, Option, Some, None, refl, sym, ap, subst, ◌∙◌, append_assoc, arith}
 use Rattle.c_ast.specs.RawTree as tree
-use Rattle.c_ast.specs.RawTree.{RawExpression, RawCondition, RawStatements}
+use Rattle.c_ast.specs.RawTree.{RawExpression, RawCondition}
 use Rattle.c_ast.specs.RawView.{raw_joined, raw_one, raw_optional}
 use Rattle.c_tokens.specs.declared.kind.Kind.{Kind}
 use Rattle.c_tokens.specs.declared.kind.Kind.TheVariants as k

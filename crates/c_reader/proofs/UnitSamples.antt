@@ -2,7 +2,7 @@
 use Rattle.std.proofs.Common.{◌≡◌, None, refl, pos, true, false}
 use Rattle.std.specs.Prelude.{codes}
 use Rattle.c_ast.specs.RawTree as tree
-use Rattle.c_ast.specs.RawTree.{RawExpression, RawStatements}
+use Rattle.c_ast.specs.RawTree.{RawExpression}
 use Rattle.c_ast.specs.declared.expr.BinOp.TheVariants as binary
 use Rattle.c_reader.specs.Statements.{ends_open}
 use Rattle.c_reader.specs.Depth.{statements_depth}

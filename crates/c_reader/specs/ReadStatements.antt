@@ -2,7 +2,7 @@
 use Rattle.std.specs.Prelude.{ℕ, zero, suc, pos, ◌-◌, nat_le, if◌then◌else◌, List, [], ◌∷◌, length, Option, Some, None}
 use Rattle.c_ast.specs.declared.expr.BinOp.{BinOp}
 use Rattle.c_ast.specs.RawTree as tree
-use Rattle.c_ast.specs.RawTree.{RawExpression, RawCondition, RawStatements}
+use Rattle.c_ast.specs.RawTree.{RawCondition}
 use Rattle.c_ast.specs.RawView.{raw_joined, raw_one, raw_optional, raw_branches}
 use Rattle.c_tokens.specs.declared.kind.Kind.{Kind}
 use Rattle.c_tokens.specs.declared.kind.Kind.TheVariants as k

@@ -138,7 +138,11 @@ fn open_brackets_are_limited(rt: HostRuntime) -> Result<(), Fail> {
     for (before, front, times, middle, back, fault) in rows {
         let nested = around(alloc, front, times, middle, back)?;
         let body = around(alloc, before, 1, nested.as_str(), "")?;
-        assert_eq!(rt; fault_of(alloc, body.as_str())?, fault, "{before}{front} {times}");
+        assert_eq!(rt;
+            fault_of(alloc, body.as_str())?,
+            fault,
+            "{before}{front} {times}"
+        );
     }
     Ok(())
 }

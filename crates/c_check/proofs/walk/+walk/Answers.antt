@@ -4,7 +4,6 @@ use Rattle.std.specs.Prelude.{option_map}
 use Rattle.std.proofs.lemmas.List.{drop_all}
 use Rattle.c_ast.specs.declared.raw.RawStmt.{RawStmt}
 use Rattle.c_ast.specs.RawTree as raw
-use Rattle.c_ast.specs.RawTree.{RawStatements}
 use Rattle.c_ast.specs.RawView.{raw_put_in_front, raw_expression_of, raw_condition_of, raw_one, raw_optional, raw_branches, raw_statements_of}
 use Rattle.c_check.specs.Resolving.{statements_at, with_front, joined_to}
 use Rattle.c_check.proofs.RawFronts.{front-Declare, front-Assign, front-If, front-While, front-Do, front-For, front-Break, front-Continue, front-Return, front-Mark, front-Block}
