@@ -43,16 +43,16 @@ pub fn llreve_alone<F: Files, O: Sink, E: Sink>(
     // Unless memory ran out, the words and the files lead to an outcome, and that is what is told.
     ensures answer { result ≢ 6 → (outcome : Outcome)
         × Leads (map string_bytes words.now) (F.text files.old)
-            (F.faults files.old) (F.faults files.new) outcome
+        (F.faults files.old) (F.faults files.new) outcome
         × Tells outcome (O.written out.old) (O.written out.new) (E.written err.old) (E.written err.new)
-            (O.faults out.old) (O.faults out.new) (E.faults err.old) (E.faults err.new) result }
+        (O.faults out.old) (O.faults out.new) (E.faults err.old) (E.faults err.new) result }
 
     // Where both texts are told, what the words and the texts lead to is what is told, unless a file could not be read,
     // a write failed or memory ran out.
     ensures exact { AreTold (map string_bytes words.now) (F.text files.old)
         → (outcome : Outcome)
         → Leads (map string_bytes words.now) (F.text files.old)
-            (F.faults files.old) (F.faults files.new) outcome
+        (F.faults files.old) (F.faults files.new) outcome
         → status_of outcome ≢ 4 → result ≢ 4 → result ≢ 5 → result ≢ 6
         → (result ≡ status_of outcome)
         × Appends (O.written out.old) (O.written out.new) (out_text outcome)
@@ -66,7 +66,7 @@ pub fn llreve_alone<F: Files, O: Sink, E: Sink>(
     ensures different { result ≡ 1
         → (d : AreDifferent (map string_bytes words.now) (F.text files.old))
         × Appends (O.written out.old) (O.written out.new)
-            (early_text (early.Different d.index d.input d.first d.second)) }
+        (early_text (early.Different d.index d.input d.first d.second)) }
 
     // It comes wherever some sample tells them apart, unless a file could not be read, a write failed or memory ran out.
     ensures apart { AreTold (map string_bytes words.now) (F.text files.old)
@@ -81,14 +81,14 @@ pub fn llreve_alone<F: Files, O: Sink, E: Sink>(
     // Status 3 tells what is refused, on the errors' output alone.
     ensures refused { result ≡ 3
         → (r : AreRefused (map string_bytes words.now) (F.text files.old)
-            (F.faults files.old) (F.faults files.new))
+        (F.faults files.old) (F.faults files.new))
         × Keeps (O.written out.old) (O.written out.new)
         × Appends (E.written err.old) (E.written err.new) (fault_text r.fault) }
 
     // Status 4 comes only where reading a file failed, and tells its name there.
     ensures unread { result ≡ 4
         → (u : AreUnread (map string_bytes words.now) (F.text files.old)
-            (F.faults files.old) (F.faults files.new))
+        (F.faults files.old) (F.faults files.new))
         × Keeps (O.written out.old) (O.written out.new)
         × Appends (E.written err.old) (E.written err.new) (fault_text (fault.Read u.name)) }
 

@@ -1,4 +1,5 @@
 //! The whole command over files and sinks in memory. A row's right side is the status, and what both sinks hold.
+mod refused;
 mod runs;
 mod sampled;
 
@@ -287,176 +288,6 @@ fn samples_are_bounded(rt: HostRuntime) -> Result<(), Fail> {
 }
 
 #[test]
-fn texts_are_refused(rt: HostRuntime) -> Result<(), Fail> {
-    let rows = [
-        ("", "3||llreve: A.c: no function\n"),
-        ("extern int __mark(int);", "3||llreve: A.c: no function\n"),
-        ("x", "3||llreve: A.c: not in the grammar\n"),
-        (
-            "int f(int a){int x; int y; x = y = 1; return x;}",
-            "3||llreve: A.c: not in the grammar\n",
-        ),
-        (
-            "int f(int a){\n  float b; return a;}",
-            "3||llreve: A.c:2:3: unsupported float\n",
-        ),
-        (
-            "int f(int a){return \"a\";}",
-            "3||llreve: A.c:1:21: no token\n",
-        ),
-        (
-            "int f(int a){return a / 2;}",
-            "3||llreve: A.c:1:23: unsupported /\n",
-        ),
-        (
-            "int f(int a){return 9223372036854775808;}",
-            "3||llreve: A.c:1:21: literal out of range\n",
-        ),
-        (
-            "int f(int a){return a;}\nint g(int a){return a;}",
-            "3||llreve: A.c: 2 functions\n",
-        ),
-        (
-            "int f(int a){\nreturn b;}",
-            "3||llreve: A.c:2: undeclared b\n",
-        ),
-        (
-            "int f(int a){int a; return a;}",
-            "3||llreve: A.c:1: declared twice a\n",
-        ),
-        (
-            "int f(int a){{int a;}\n{int b; int c,\nb;} return a;}",
-            "3||llreve: A.c:3: declared twice b\n",
-        ),
-        (
-            "int f(int a){{int b;} return b;}",
-            "3||llreve: A.c:1: undeclared b\n",
-        ),
-        (
-            "int f(int a){for(int i=0;i<a;i++);\nreturn i;}",
-            "3||llreve: A.c:2: undeclared i\n",
-        ),
-        (
-            "int f(int a){\n\nbreak; return a;}",
-            "3||llreve: A.c:3: outside a loop\n",
-        ),
-        (
-            "int f(int a){if(a) continue; return a;}",
-            "3||llreve: A.c:1: outside a loop\n",
-        ),
-        (
-            "int f(int a){__mark(5); __mark(5); return a;}",
-            "3||llreve: A.c: mark 5 twice\n",
-        ),
-        (
-            "int f(int a){__mark(5); while(__mark(5)&&b); return a;}",
-            "3||llreve: A.c: mark 5 twice\n",
-        ),
-        (
-            "int f(int a){__mark(1000000); return a;}",
-            "3||llreve: A.c: mark 1000000 out of range\n",
-        ),
-        (
-            "int f(int a){for(;b;c++) d=0; return a;}",
-            "3||llreve: A.c:1: undeclared b\n",
-        ),
-        (
-            "int f(int a){for(;a;c++) d=0; return a;}",
-            "3||llreve: A.c:1: undeclared c\n",
-        ),
-        (
-            "int f(int a){do d=0; while(b); return a;}",
-            "3||llreve: A.c:1: undeclared d\n",
-        ),
-    ];
-    for (text, want) in rows {
-        let got = Run::on(text, TWICE).told(rt.alloc(), &NAMES)?;
-        assert_eq!(rt; got.as_str(), want, "{text}");
-    }
-    Ok(())
-}
-
-/// The text of this many times the same between a front and a back.
-fn repeated(
-    alloc: Global,
-    front: &str,
-    middle: &str,
-    times: usize,
-    back: &str,
-) -> Result<String, AllocError> {
-    let mut text = String::from_str(alloc, front)?;
-    for _ in 0..times {
-        text.push_str(middle)?;
-    }
-    text.push_str(back)?;
-    Ok(text)
-}
-
-/// What a function that returns its parameter is told from the constant 2 by.
-const DIFFERS: &str = "1|different\nsample 0\ninput 0\nA returns 0\nB returns 2\n|";
-
-#[test]
-fn texts_nest_as_deep_as_may_be(rt: HostRuntime) -> Result<(), Fail> {
-    let alloc = rt.alloc();
-    let rows = [
-        ("int f(int a){return ", "(", 199, "a", ")", DIFFERS),
-        (
-            "int f(int a){return ",
-            "(",
-            200,
-            "a",
-            ")",
-            "3||llreve: A.c: nested too deep\n",
-        ),
-        ("int f(int a){", "if(a) ", 398, "; return a;", "", DIFFERS),
-        (
-            "int f(int a){",
-            "if(a) ",
-            399,
-            "; return a;",
-            "",
-            "3||llreve: A.c: not in the grammar\n",
-        ),
-    ];
-    for (front, opening, times, middle, closing, want) in rows {
-        let mut text = repeated(alloc, front, opening, times, middle)?;
-        let closings = repeated(alloc, "", closing, times, ";}")?;
-        text.push_str(closings.as_str())?;
-        let got = Run::on(text.as_str(), "int f(int a){return 2;}").told(alloc, &NAMES)?;
-        assert_eq!(rt; got.as_str(), want, "{times} times {opening}");
-    }
-    Ok(())
-}
-
-/// One parameter and this many more variables.
-fn with_variables(alloc: Global, count: usize) -> Result<String, AllocError> {
-    let mut text = String::from_str(alloc, "int f(int a){int v")?;
-    for i in 1..count {
-        let next = format!(in alloc; ",v{i}")?;
-        text.push_str(next.as_str())?;
-    }
-    text.push_str("; return a;}")?;
-    Ok(text)
-}
-
-#[test]
-fn variables_are_counted(rt: HostRuntime) -> Result<(), Fail> {
-    let alloc = rt.alloc();
-    for (count, want) in [
-        (
-            63,
-            "1|different\nsample 1\ninput 1\nA returns 1\nB returns 2\n|",
-        ),
-        (64, "3||llreve: A.c: 65 variables\n"),
-    ] {
-        let text = with_variables(alloc, count)?;
-        let got = Run::on(text.as_str(), TWICE).told(alloc, &NAMES)?;
-        assert_eq!(rt; got.as_str(), want, "{count} variables");
-    }
-    Ok(())
-}
-
-#[test]
 fn words_are_judged_first(rt: HostRuntime) -> Result<(), Fail> {
     let usage = "3||llreve: usage: llreve [options] FIRST SECOND\n";
     let rows: [(&[&str], &str); 12] = [
@@ -494,15 +325,17 @@ fn words_are_judged_first(rt: HostRuntime) -> Result<(), Fail> {
 
 #[test]
 fn reads_fail(rt: HostRuntime) -> Result<(), Fail> {
-    for (read, want) in [
-        (0, "4||llreve: A.c: cannot be read\n"),
-        (1, "4||llreve: B.c: cannot be read\n"),
-        (2, "0|equivalent\n|"),
+    for (first, read, want) in [
+        (DOUBLE, 0, "4||llreve: A.c: cannot be read\n"),
+        (DOUBLE, 1, "4||llreve: B.c: cannot be read\n"),
+        // Both files are read before a text is parsed.
+        ("", 1, "4||llreve: B.c: cannot be read\n"),
+        (DOUBLE, 2, "0|equivalent\n|"),
     ] {
         let failing = [read];
         let run = Run {
             reads: &failing,
-            ..Run::on(DOUBLE, TWICE)
+            ..Run::on(first, TWICE)
         };
         assert_eq!(rt; run.told(rt.alloc(), &NAMES)?.as_str(), want, "read {read}");
     }
@@ -556,34 +389,6 @@ fn a_failed_write_leaves_a_front(rt: HostRuntime) -> Result<(), Fail> {
             err_front.push(letter)?;
             call = call.saturating_add(1);
         }
-    }
-    Ok(())
-}
-
-/// The function of one parameter that it returns, and a comment up to a length.
-fn blown_up(alloc: Global, length: usize) -> Result<String, AllocError> {
-    let mut text = String::from_str(alloc, "int f(int a){return a;}/*")?;
-    for _ in text.len()..length.saturating_sub(2) {
-        text.push('x')?;
-    }
-    text.push_str("*/")?;
-    Ok(text)
-}
-
-#[test]
-fn long_files_are_refused(rt: HostRuntime) -> Result<(), Fail> {
-    let alloc = rt.alloc();
-    let (whole, over) = (blown_up(alloc, 65_536)?, blown_up(alloc, 65_537)?);
-    let (whole, over) = (whole.as_str(), over.as_str());
-    for (first, second, want) in [
-        (whole, whole, "0|equivalent\n|"),
-        (over, whole, "3||llreve: A.c: over 65536 bytes\n"),
-        // Both files are read before a text is parsed.
-        ("int f(int a){", over, "3||llreve: B.c: over 65536 bytes\n"),
-        (over, over, "3||llreve: A.c: over 65536 bytes\n"),
-    ] {
-        let got = Run::on(first, second).told(alloc, &NAMES)?;
-        assert_eq!(rt; got.as_str(), want);
     }
     Ok(())
 }

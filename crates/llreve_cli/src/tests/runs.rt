@@ -48,7 +48,7 @@ const SUM: &str =
 
 #[test]
 fn functions_run_as_in_c(rt: HostRuntime) -> Result<(), Fail> {
-    let rows: [(&str, i128, &str); 8] = [
+    let rows: [(&str, i128, &str); 11] = [
         (SUM, 2, "42:2,0,0, 42:2,1,0, 42:2,2,1, 1"),
         ("int f(int a){return a*a*a*a;}", 33_554_432, "wide"),
         // A `continue` in a `for` goes on with its third part.
@@ -67,6 +67,23 @@ fn functions_run_as_in_c(rt: HostRuntime) -> Result<(), Fail> {
             "int f(int n){int i=1; while(i<n) i++; return i;}",
             -3,
             "1000000:-3,1, 1",
+        ),
+        // Such a mark has the loop's number among all loops, in the order of the source.
+        (
+            "int f(int n){while(n>2) n--; while(__mark(7) & (n>1)) n--; do n--; while(n>0); return n;}",
+            3,
+            "1000000:3, 1000000:2, 7:2, 7:1, 1000002:0, 0",
+        ),
+        (
+            "int f(int n){for(;n>0;n--) for(int i=0;i<1;i++); while(n<0) n++; return n;}",
+            1,
+            "1000000:1, 1000001:1,0, 1000001:1,1, 1000000:0, 1000002:0, 0",
+        ),
+        // The body of a `for` is a scope within that of its first part.
+        (
+            "int f(int a){for(int i=0;i<2;i++){int i=5; a=a+i;} return a;}",
+            1,
+            "1000000:1,0, 1000000:6,1, 1000000:11,2, 11",
         ),
         // A variable is 0 each time that its declaration is reached.
         (

@@ -56,6 +56,11 @@ fn sampled(alloc: Global, first: &str, second: &str, index: u32) -> Result<Strin
     Ok(shown(alloc, &pair(alloc, &subject, index))?)
 }
 
+const AS_GIVEN: &str = "int f(int a){return a;}";
+
+/// Powers of 2 grow wide before 64 marks are passed, and powers of 1 never do.
+const POWERS: &str = "int f(int x){int i=0; while(__mark(3) & (i<100)){x=x*x; i=i+1;} return x;}";
+
 #[test]
 fn samples_are_pairs_or_skipped(rt: HostRuntime) -> Result<(), Fail> {
     let squares = "int f(int x){int i=0; while(__mark(3) & (i<60)){x=x*x; i=i+1;} return x;}";
@@ -106,7 +111,7 @@ fn samples_are_pairs_or_skipped(rt: HostRuntime) -> Result<(), Fail> {
         ),
         (
             "int f(int a){int x=a; {int x=1; x=5;} return x;}",
-            "int f(int a){return a;}",
+            AS_GIVEN,
             4,
             "7 7 marks 0 0",
         ),
@@ -119,10 +124,31 @@ fn samples_are_pairs_or_skipped(rt: HostRuntime) -> Result<(), Fail> {
         // Each part of an expression counts, also one that C would skip.
         (
             "int f(int a){int b=9223372036854775807; return 0 && b*b;}",
-            "int f(int a){int b=9223372036854775807; return 1 ? a : b*b;}",
+            AS_GIVEN,
             0,
             "A Wide",
         ),
+        (
+            AS_GIVEN,
+            "int f(int a){int b=9223372036854775807; return 1 || b*b;}",
+            0,
+            "B Wide",
+        ),
+        (
+            AS_GIVEN,
+            "int f(int a){int b=9223372036854775807; return 1 ? a : b*b;}",
+            0,
+            "B Wide",
+        ),
+        (
+            AS_GIVEN,
+            "int f(int a){int b=9223372036854775807; return 0 ? b*b : a;}",
+            0,
+            "B Wide",
+        ),
+        // Of two causes the one that the run meets first is told.
+        (POWERS, POWERS, 2, "A Wide"),
+        (POWERS, POWERS, 1, "A NotEnded"),
     ];
     for (first, second, index, want) in rows {
         assert_eq!(rt;
