@@ -1,5 +1,5 @@
 //! Goes over statements in the order of the source. The first fault ends it.
-ghost use Rattle.std.specs.Prelude.{◌≡◌, ◌<◌, ◌+◌, ◌^◌, Bool, MatchResult, IfOk, IfErr, OnOk, option_map};
+ghost use Rattle.std.specs.Prelude.{◌≡◌, ◌<◌, ◌+◌, ◌^◌, Bool, true, [], ◌∷◌, ◌++◌, map, Some, None, option_map, MatchResult, IfOk, IfErr, OnOk};
 ghost use Rattle.c_ast.specs.RawTree as raw;
 ghost use Rattle.c_ast.specs.RawView.{raw_expression_of, raw_condition_of, raw_declared_of, raw_one, raw_optional, raw_put_in_front, raw_statements_of};
 ghost use Rattle.c_ast.specs.declared.stmt.Stmt.{Loop};
@@ -8,7 +8,6 @@ ghost use Rattle.c_check.specs.declared.fault.CheckFault.TheVariants as fault;
 ghost use Rattle.c_check.specs.Resolves.{first_automatic, begins_with_mark, loop_mark, named_mark};
 ghost use Rattle.c_check.specs.Table.{scope_of};
 ghost use Rattle.c_check.specs.Resolving.{variable_in, expression_in, initial_value, condition_at, condition_option_at, with_condition, made, closed, entered, statements_at, Gives, Puts, Pushes, FailsIn, Declares, FailsDeclaring};
-ghost use Rattle.std.specs.Prelude.{[], ◌∷◌, ◌++◌, Some, None, map, true};
 ghost use Rattle.c_check.specs.Occurrences.{Jump};
 ghost use Rattle.c_check.specs.Faults.{fault_of};
 
