@@ -130,11 +130,14 @@ not_before true others once = absurd (omega arith)
 not_before false others once = (refl, omega arith)
 
 -- The option of the first item that is left has its numbers.
-own_sets : (setting : Setting) (number : ℕ) (now : Given) (items : List Item) (command : Command) (workers : ℕ)
-    → Makes now (given setting number ∷ items) command workers
-    → Sets setting (option_to_list (number_of setting now) ++ number ∷ numbers setting items) (number_in workers command setting)
+own_sets : (setting : Setting) (number : ℕ) (now : Given) (items : List Item) (command : Command)
+    (workers : ℕ) → Makes now (given setting number ∷ items) command workers
+    → Sets setting (option_to_list (number_of setting now) ++ number ∷ numbers setting items)
+    (number_in workers command setting)
 own_sets setting number now items command workers makes =
-    subst (λ l. Sets setting (option_to_list (number_of setting now) ++ l) (number_in workers command setting)) (own_numbers setting number items) (makes.sets setting)
+    let so_far = option_to_list (number_of setting now) in
+    subst (λ l. Sets setting (so_far ++ l) (number_in workers command setting))
+    (own_numbers setting number items) (makes.sets setting)
 
 -- ---- one item
 
@@ -155,8 +158,9 @@ moved alone now items command workers makes =
       },
     )
 moved (given setting number) now items command workers makes =
+    let own = own_sets setting number now items command workers makes in
     let none : number_of setting now ≡ None =
-    (sole setting (number_of setting now) number (number_in workers command setting) (numbers setting items) (own_sets setting number now items command workers makes)).0 in
+    (sole setting (number_of setting now) number (number_in workers command setting) (numbers setting items) own).0 in
     let stay = others_stay setting number now in
     let put_alone : (put setting number now).alone ≡ now.alone = stay.0 in
     let put_files : (put setting number now).files ≡ now.files = stay.1 in (
@@ -183,7 +187,8 @@ moved (operand word) now items command workers makes =
 pub item_within : (setting : Setting) (number : ℕ) (now : Given) (items : List Item) (command : Command) (workers : ℕ)
     → Makes now (given setting number ∷ items) command workers → IsWithin setting number
 item_within setting number now items command workers makes =
-    (sole setting (number_of setting now) number (number_in workers command setting) (numbers setting items) (own_sets setting number now items command workers makes)).1
+    let own = own_sets setting number now items command workers makes in
+    (sole setting (number_of setting now) number (number_in workers command setting) (numbers setting items) own).1
 
 switched : (before : Bool) (now next : Given) → now.alone ≡ before → (if before then None else Some (record now { alone = true })) ≡ Some next
     → (before ≡ false) × (record now { alone = true } ≡ next)

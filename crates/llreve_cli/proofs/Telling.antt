@@ -99,7 +99,7 @@ refused-status (fault.Reader name inner) = omega arith
 refused-status (fault.Check name inner) = omega arith
 refused-status (fault.Different arity) = omega arith
 
--- A verdict has a status below.
+-- A verdict has a status below 3.
 verdict-status : (e : Early) → early_status e < 3
 verdict-status early.Equivalent = omega arith
 verdict-status (early.Different index input first second) = omega arith
@@ -115,12 +115,11 @@ no_failed_read name text (fault.Reader named inner) failed same refuses = cc
 no_failed_read name text (fault.Check named inner) failed same refuses = cc
 no_failed_read name text (fault.Different arity) failed same refuses = refuses
 
--- A refusal by a failed read has a file whose count of faults rose.
-read_rose : (text : List ℕ → Option (List ℕ)) (before after : List ℕ → ℕ) (name : List ℕ) (f : Fault) (failed : List ℕ) → f ≡ fault.Read failed
-    → RefusesRead text before after name f → Rose (before failed) (after failed)
+read_rose : (text : List ℕ → Option (List ℕ)) (before after : List ℕ → ℕ) (name : List ℕ) (f : Fault) (failed : List ℕ)
+    → f ≡ fault.Read failed → RefusesRead text before after name f → Rose (before failed) (after failed)
 read_rose text before after name (fault.Read named) failed same refuses =
-    let is : failed ≡ name = let named_so : named ≡ failed = cc in sym named_so ∙ refuses.0 in
-    subst (λ (n : List ℕ). Rose (before n) (after n)) (sym is) refuses.1
+    let is : failed ≡ named = cc in
+    subst (λ (n : List ℕ). Rose (before n) (after n)) (sym (is ∙ refuses.0)) refuses.1
 read_rose text before after name (fault.TooLong named) failed same refuses = absurd cc
 read_rose text before after name fault.Usage failed same refuses = absurd refuses
 read_rose text before after name (fault.Token named inner) failed same refuses = absurd refuses
@@ -129,19 +128,18 @@ read_rose text before after name (fault.Check named inner) failed same refuses =
 read_rose text before after name (fault.Different arity) failed same refuses = absurd refuses
 
 module _ (words : List (List ℕ)) (text : List ℕ → Option (List ℕ)) (before after : List ℕ → ℕ) where
-  leads-failed : (o : Outcome) → Leads words text before after o → (f : Fault) (name : List ℕ) → o ≡ outcome.Refused f → f ≡ fault.Read name
-      → Rose (before name) (after name)
-  leads-failed o (no_command _) f name same read = absurd (let clash : fault.Usage ≡ fault.Read name = cc in cc)
-  leads-failed o (first_unread command why _ refuses) f name same read =
-      read_rose text before after command.first why name (let equal : why ≡ f = cc in equal ∙ read) refuses
-  leads-failed o (second_unread command bytes why _ _ refuses) f name same read =
-      read_rose text before after command.second why name (let equal : why ≡ f = cc in equal ∙ read) refuses
-  leads-failed o (first_refused files why refuses) f name same read =
-      absurd (no_failed_read files.command.first files.first_text why name (let equal : why ≡ f = cc in equal ∙ read) refuses)
-  leads-failed o (second_refused files _ why _ refuses) f name same read =
-      absurd (no_failed_read files.command.second files.second_text why name (let equal : why ≡ f = cc in equal ∙ read) refuses)
-  leads-failed o (other_arity _ _) f name same read = absurd cc
-  leads-failed o (compared _ _ _) f name same read = absurd cc
+  -- A file that was not read is one whose count of faults rose.
+  leads-failed : (o : Outcome) (name : List ℕ) → Leads words text before after o
+      → o ≡ outcome.Refused (fault.Read name) → Rose (before name) (after name)
+  leads-failed o name (no_command _) same = absurd cc
+  leads-failed o name (first_unread command f _ refuses) same = read_rose text before after command.first f name (cc) refuses
+  leads-failed o name (second_unread command _ f _ _ refuses) same = read_rose text before after command.second f name (cc) refuses
+  leads-failed o name (first_refused files f refuses) same =
+      absurd (no_failed_read files.command.first files.first_text f name (cc) refuses)
+  leads-failed o name (second_refused files _ f _ refuses) same =
+      absurd (no_failed_read files.command.second files.second_text f name (cc) refuses)
+  leads-failed o name (other_arity _ _) same = absurd cc
+  leads-failed o name (compared _ _ _) same = absurd cc
 
   -- a verdict of functions that can be compared
   abbrev Verdict : Early → Type 0
@@ -218,12 +216,13 @@ module _ (words : List (List ℕ)) (text : List ℕ → Option (List ℕ)) (befo
     ToldRefusal f = Leads words text before after (outcome.Refused f) × Keeps out out' × Appends err err' (fault_text f)
 
     -- A status of 3 or 4 tells a refusal.
-    refusal-told : (o : Outcome) → Leads words text before after o → Tells o out out' err err' p p' q q' status → 3 ≤ status → status ≤ 4
-        → (f : Fault) × (fault_status f ≡ status) × ToldRefusal f
+    refusal-told : (o : Outcome) → Leads words text before after o → Tells o out out' err err' p p' q q' status
+        → 3 ≤ status → status ≤ 4 → (f : Fault) × (fault_status f ≡ status) × ToldRefusal f
     refusal-told (outcome.Verdict e) leads tells low high =
         absurd (let whole = tells.whole (λ e. omega arith) (λ e. omega arith) in omega (arith, whole.0, verdict-status e))
     refusal-told (outcome.Refused f) leads tells low high =
-        let whole = tells.whole (λ e. omega arith) (λ e. omega arith) in (f, sym whole.0, (leads, nothing_appended out out' whole.1, whole.2))
+        let whole = tells.whole (λ e. omega arith) (λ e. omega arith) in
+        (f, sym whole.0, (leads, nothing_appended out out' whole.1, whole.2))
 
     pub refused-told : (o : Outcome) → Leads words text before after o → Tells o out out' err err' p p' q q' status → status ≡ 3
         → (r : AreRefused words text before after) × Keeps out out' × Appends err err' (fault_text r.fault)
@@ -244,7 +243,7 @@ module _ (words : List (List ℕ)) (text : List ℕ → Option (List ℕ)) (befo
         on (fault.Read name) same told = (
           record {
             name = name;
-            failed = leads-failed (outcome.Refused (fault.Read name)) told.0 (fault.Read name) name refl refl;
+            failed = leads-failed (outcome.Refused (fault.Read name)) name told.0 refl;
             leads = told.0;
           },
           told.1,
@@ -259,7 +258,8 @@ module _ (words : List (List ℕ)) (text : List ℕ → Option (List ℕ)) (befo
 
 -- ---- what a failed write says
 
--- One of the two streams counted a fault.
-pub cut_rose : (out out' err err' : Option (List ℕ)) (p p' q q' : ℕ) (o : Outcome) → Cut o out out' err err' p p' q q' → Rose p p' ⊎ Rose q q'
+-- One of the two sinks counted a fault.
+pub cut_rose : (out out' err err' : Option (List ℕ)) (p p' q q' : ℕ) (o : Outcome)
+    → Cut o out out' err err' p p' q q' → Rose p p' ⊎ Rose q q'
 cut_rose out out' err err' p p' q q' (outcome.Verdict e) cut = inl cut.0
 cut_rose out out' err err' p p' q q' (outcome.Refused f) cut = inr cut.0

@@ -47,13 +47,15 @@ pub record SampleDiffers (words : List (List ℕ)) (text : List ℕ → Option (
   pub apart : TellsApart (subject_of comparable) index pair
 
 -- The words, a text or the numbers of parameters are refused: of all refusals this is the first in the order of judgement.
-pub record AreRefused (words : List (List ℕ)) (text : List ℕ → Option (List ℕ)) (before after : List ℕ → ℕ) : Type 0 where
+pub record AreRefused (words : List (List ℕ)) (text : List ℕ → Option (List ℕ))
+    (before after : List ℕ → ℕ) : Type 0 where
   pub fault : Fault
   pub leads : Leads words text before after (Refused fault)
   pub no_read : fault_status fault ≢ 4
 
 -- A file could not be read: of all refusals this is the first in the order of judgement.
-pub record AreUnread (words : List (List ℕ)) (text : List ℕ → Option (List ℕ)) (before after : List ℕ → ℕ) : Type 0 where
+pub record AreUnread (words : List (List ℕ)) (text : List ℕ → Option (List ℕ))
+    (before after : List ℕ → ℕ) : Type 0 where
   pub name : List ℕ
   pub failed : Rose (before name) (after name)
   pub leads : Leads words text before after (Refused (Read name))

@@ -98,7 +98,8 @@ pub fn llreve_alone<F: Files, O: Sink, E: Sink>(
 
     // Where memory ran out, nothing is written.
     ensures memory { result ≡ 6
-        → Keeps (O.written out.old) (O.written out.new) × Keeps (E.written err.old) (E.written err.new) }
+        → Keeps (O.written out.old) (O.written out.new)
+        × Keeps (E.written err.old) (E.written err.new) }
 {
     match settle(alloc, words, files) {
         Ok(outcome) => tell(alloc, &outcome, out, err),
