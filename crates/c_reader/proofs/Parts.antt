@@ -13,18 +13,7 @@ use Rattle.c_reader.specs.Expressions.{unary_of, operator_of}
 use Rattle.c_reader.specs.ReadExpressions.{Reader, Further, NextOperator, ◌>>=◌, Reading, next_operator, operand_by, joined_by, chosen_by, level_by, whole_by}
 use Rattle.c_reader.specs.declared.sign.Sign.TheVariants as sign
 use Rattle.c_reader.specs.Signs.{behind_sign}
-use Rattle.c_reader.proofs.Reading.{SignFirst, behind_sign-found}
-
--- a step that found something, and what the rest made of it
-pub record IsStep {A B : Type 0} (step : Option A) (go_on : A → Option B) (y : B) : Type 0 where
-  pub x : A
-  pub found : step ≡ Some x
-  pub goes_on : go_on x ≡ Some y
-
-pub step_of : {A B : Type 0} (step : Option A) (go_on : A → Option B) (y : B) → (step >>= go_on) ≡ Some y
-    → IsStep step go_on y
-step_of None go_on y is = absurd cc
-step_of (Some x) go_on y is = record { x = x; found = refl; goes_on = is }
+use Rattle.c_reader.proofs.Reading.{stepped, SignFirst, behind_sign-found}
 
 -- Two readings of equal steps are equal.
 pub step-same : {A B : Type 0} (step other : Option A) (go_on further : A → Option B) → step ≡ other
@@ -53,12 +42,12 @@ pub IsNext-from_next : (level : ℕ) (tokens : List Token) (at : ℕ) (op : BinO
     → next_operator level tokens ≡ Some (at, op, line, others) → IsNext level tokens at op line others
 IsNext-from_next level [] at op line others is = absurd cc
 IsNext-from_next level (sign ∷ behind_it) at op line others is =
-    let step = step_of (operator_of sign.kind) _ (at, op, line, others) is in
-    let both = if-Some (nat_le level step.x.0) (step.x.0, step.x.1, sign.line, behind_it) (at, op, line, others) step.goes_on in
+    let step = stepped (operator_of sign.kind) _ (at, op, line, others) is in
+    let both = if-Some (nat_le level step.0.0) (step.0.0, step.0.1, sign.line, behind_it) (at, op, line, others) step.2 in
     record {
       sign = sign;
       parts = ap (λ (x : NextOperator). sign ∷ x.3) both.1;
-      operator = step.found ∙ ap (λ (x : NextOperator). Some (x.0, x.1)) both.1;
+      operator = step.1 ∙ ap (λ (x : NextOperator). Some (x.0, x.1)) both.1;
       binds = subst (λ (n : ℕ). level ≤ n) (ap (λ (x : NextOperator). x.0) both.1) (grind (arith, nat_tests, both.0));
       place = ap (λ (x : NextOperator). x.2) both.1;
     }
@@ -99,11 +88,11 @@ OperandIs-from_sign : (kind : Kind) (line : ℕ) (others : List Token) (inside o
     (last : List Token) → (unary_of kind >>= under_sign operand) ≡ Some (e, last)
     → OperandIs kind line others inside operand e last
 OperandIs-from_sign kind line others inside operand e last is =
-    let sign = step_of (unary_of kind) (under_sign operand) (e, last) is in
-    let step = step_of operand (λ x. Some (Un sign.x x.0, x.1)) (e, last) sign.goes_on in
+    let sign = stepped (unary_of kind) (under_sign operand) (e, last) is in
+    let step = stepped operand (λ x. Some (Un sign.0 x.0, x.1)) (e, last) sign.2 in
     subst (λ (x : RawExpression × List Token). OperandIs kind line others inside operand x.0 x.1)
-    (same_Some (Un sign.x step.x.0, step.x.1) (e, last) step.goes_on)
-    (signed sign.x step.x.0 step.x.1 sign.found step.found)
+    (same_Some (Un sign.0 step.0.0, step.0.1) (e, last) step.2)
+    (signed sign.0 step.0.0 step.0.1 sign.1 step.1)
 
 pub OperandIs-from_operand : (kind : Kind) (line : ℕ) (others : List Token) (inside operand : Reading)
     (e : RawExpression) (last : List Token) → operand_by kind line others inside operand ≡ Some (e, last)
@@ -116,11 +105,11 @@ OperandIs-from_operand (k.Constant value) line others inside operand e last is =
     subst (λ (x : RawExpression × List Token). OperandIs (k.Constant value) line others inside operand x.0 x.1) both.1
     (constant value refl (grind (arith, nat_tests, both.0)))
 OperandIs-from_operand k.OpenRound line others inside operand e last is =
-    let step = step_of inside _ (e, last) is in
-    let closing = step_of (behind_sign sign.CloseRound step.x.1) _ (e, last) step.goes_on in
+    let step = stepped inside _ (e, last) is in
+    let closing = stepped (behind_sign sign.CloseRound step.0.1) _ (e, last) step.2 in
     subst (λ (x : RawExpression × List Token). OperandIs k.OpenRound line others inside operand x.0 x.1)
-    (same_Some (step.x.0, closing.x) (e, last) closing.goes_on)
-    (bracketed step.x.0 step.x.1 closing.x refl step.found (behind_sign-found sign.CloseRound step.x.1 closing.x closing.found))
+    (same_Some (step.0.0, closing.0) (e, last) closing.2)
+    (bracketed step.0.0 step.0.1 closing.0 refl step.1 (behind_sign-found sign.CloseRound step.0.1 closing.0 closing.1))
 OperandIs-from_operand kind line others inside operand e last is =
     OperandIs-from_sign kind line others inside operand e last is
 
@@ -144,8 +133,8 @@ JoinedIs-from_joined left tokens level right further e last is = by_next (next_o
         ends (ap (λ (x : RawExpression × List Token). x.0) both) (ap (λ (x : RawExpression × List Token). x.1) both)
         (Stops-from_next level tokens none)
     by_next (Some (at, op, line, others)) some is =
-        let step = step_of (right (suc at) others) _ (e, last) is in
-        goes_on at op line others step.x.0 step.x.1 (IsNext-from_next level tokens at op line others some) step.found step.goes_on
+        let step = stepped (right (suc at) others) _ (e, last) is in
+        goes_on at op line others step.0.0 step.0.1 (IsNext-from_next level tokens at op line others some) step.1 step.2
 
 -- what goes on from a condition
 pub data ChosenIs (cond : RawExpression) (tokens : List Token) (value : Reader) (e : RawExpression) (last : List Token) : Type 0 where
@@ -165,13 +154,13 @@ ChosenIs-from_chosen cond tokens value e last is = by_behind (behind_sign sign.Q
         let both = same_Some (cond, tokens) (e, last) is in
         ends (ap (λ (x : RawExpression × List Token). x.0) both) (ap (λ (x : RawExpression × List Token). x.1) both) none
     by_behind (Some others) some is =
-        let first = step_of (value others) _ (e, last) is in
-        let colon = step_of (behind_sign sign.Colon first.x.1) _ (e, last) first.goes_on in
-        let second = step_of (value colon.x) _ (e, last) colon.goes_on in
-        let both = same_Some (Cond cond first.x.0 second.x.0, second.x.1) (e, last) second.goes_on in
-        goes_on others first.x.1 colon.x first.x.0 second.x.0 (behind_sign-found sign.Question tokens others some)
-        first.found (behind_sign-found sign.Colon first.x.1 colon.x colon.found)
-        (second.found ∙ ap (λ (x : RawExpression × List Token). Some (second.x.0, x.1)) both)
+        let first = stepped (value others) _ (e, last) is in
+        let colon = stepped (behind_sign sign.Colon first.0.1) _ (e, last) first.2 in
+        let second = stepped (value colon.0) _ (e, last) colon.2 in
+        let both = same_Some (Cond cond first.0.0 second.0.0, second.0.1) (e, last) second.2 in
+        goes_on others first.0.1 colon.0 first.0.0 second.0.0 (behind_sign-found sign.Question tokens others some)
+        first.1 (behind_sign-found sign.Colon first.0.1 colon.0 colon.1)
+        (second.1 ∙ ap (λ (x : RawExpression × List Token). Some (second.0.0, x.1)) both)
         (ap (λ (x : RawExpression × List Token). x.0) both)
 
 -- an operand, and what goes on from it
@@ -185,8 +174,8 @@ pub LevelIs-from_level : (operand : Reader) (further : Further)
     (tokens : List Token) (e : RawExpression) (last : List Token) → level_by operand further tokens ≡ Some (e, last)
     → LevelIs operand further tokens e last
 LevelIs-from_level operand further tokens e last is =
-    let step = step_of (operand tokens) _ (e, last) is in
-    record { left = step.x.0; after = step.x.1; found = step.found; goes_on = step.goes_on }
+    let step = stepped (operand tokens) _ (e, last) is in
+    record { left = step.0.0; after = step.0.1; found = step.1; goes_on = step.2 }
 
 -- an or-expression, and what goes on from it
 pub record WholeIs (operand : Reader) (further choice : Further) (tokens : List Token) (e : RawExpression) (last : List Token) : Type 0 where
@@ -199,10 +188,10 @@ pub WholeIs-from_whole : (operand : Reader) (further choice : Further)
     (tokens : List Token) (e : RawExpression) (last : List Token)
     → whole_by operand further choice tokens ≡ Some (e, last) → WholeIs operand further choice tokens e last
 WholeIs-from_whole operand further choice tokens e last is =
-    let step = step_of (level_by operand further tokens) _ (e, last) is in
+    let step = stepped (level_by operand further tokens) _ (e, last) is in
     record {
-      cond = step.x.0;
-      after = step.x.1;
-      found = step.found;
-      goes_on = step.goes_on;
+      cond = step.0.0;
+      after = step.0.1;
+      found = step.1;
+      goes_on = step.2;
     }

@@ -12,7 +12,7 @@ use Rattle.c_reader.specs.Expressions.{unary_of, expression_depth}
 use Rattle.c_reader.specs.ReadExpressions.{◌>>=◌, Reading, next_operator, operand_at, further_at, level_at, choice_at, expression_at, IsDeeper}
 use Rattle.c_reader.specs.declared.sign.Sign.TheVariants as sign
 use Rattle.c_reader.specs.Signs.{behind_sign}
-use Rattle.c_reader.proofs.Parts.{step_of}
+use Rattle.c_reader.proofs.Reading.{stepped}
 use Rattle.c_reader.proofs.Equations.{level_at-is, expression_at-is}
 use Rattle.c_reader.proofs.Depths.{depth-positive, further_at-depth, choice_at-depth}
 use Rattle.c_reader.proofs.Readings.{operand_at-bracket, operand_at-sign, further_at-next, expression_at-level, choice_to, choice_at-asked}
@@ -48,8 +48,8 @@ deeper-step : (room : ℕ) (reading step : Reading) (go_on : RawExpression × Li
     → ((x : RawExpression × List Token) (e : RawExpression) (others : List Token) → step ≡ Some x → go_on x ≡ Some (e, others)
     → room < expression_depth e) → IsDeeper room reading
 deeper-step room reading step go_on same deeper e others is =
-    let parts = step_of step go_on (e, others) (sym same ∙ is) in
-    deeper parts.x e others parts.found parts.goes_on
+    let parts = stepped step go_on (e, others) (sym same ∙ is) in
+    deeper parts.0 e others parts.1 parts.2
 
 -- ---- operands
 
@@ -58,8 +58,8 @@ pub deeper-bracket : (room : ℕ) (token : Token) (others : List Token) → toke
 deeper-bracket room token others is deeper =
     deeper-step room (operand_at (token ∷ others)) (expression_at others) (λ x. behind_sign sign.CloseRound x.1 >>= λ after. Some (x.0, after))
     (operand_at-bracket token others is) λ x e last found goes.
-    let parts = step_of (behind_sign sign.CloseRound x.1) (λ after. Some (x.0, after)) (e, last) goes in
-    omega (arith, deeper x.0 x.1 found, same-depth (x.0, parts.x) (e, last) parts.goes_on)
+    let parts = stepped (behind_sign sign.CloseRound x.1) (λ after. Some (x.0, after)) (e, last) goes in
+    omega (arith, deeper x.0 x.1 found, same-depth (x.0, parts.0) (e, last) parts.2)
 
 pub deeper-sign : (room : ℕ) (token : Token) (others : List Token) (op : UnOp) → unary_of token.kind ≡ Some op
     → IsDeeper (room - 1) (operand_at others) → IsDeeper room (operand_at (token ∷ others))
@@ -103,12 +103,12 @@ deeper-choice room tokens others behind_it cond is asked deeper =
     deeper-step room (expression_at tokens) (expression_at behind_it)
     (λ x. behind_sign sign.Colon x.1 >>= λ after. choice_to cond x.0 (expression_at after))
     (expression_at-level tokens others cond is ∙ choice_at-asked cond others behind_it asked) λ x e last found goes.
-    let colon = step_of (behind_sign sign.Colon x.1) (λ after. choice_to cond x.0 (expression_at after)) (e, last) goes in
-    let second = step_of (expression_at colon.x) (λ y. Some (Cond cond x.0 y.0, y.1)) (e, last) colon.goes_on in
+    let colon = stepped (behind_sign sign.Colon x.1) (λ after. choice_to cond x.0 (expression_at after)) (e, last) goes in
+    let second = stepped (expression_at colon.0) (λ y. Some (Cond cond x.0 y.0, y.1)) (e, last) colon.2 in
     omega (
       arith,
-      deeper x second.x colon.x found colon.found second.found,
-      same-depth (Cond cond x.0 second.x.0, second.x.1) (e, last) second.goes_on,
+      deeper x second.0 colon.0 found colon.1 second.1,
+      same-depth (Cond cond x.0 second.0.0, second.0.1) (e, last) second.2,
     )
 
 -- No `:` stands behind the first value.

@@ -39,5 +39,6 @@ pub record HasTraces (subject : Comparison) (pair : Pair) : Type 0 where
   pub first : IsTraceWithin subject.settings.marks (program_of subject.first) pair.input pair.first
   pub second : IsTraceWithin subject.settings.marks (program_of subject.second) pair.input pair.second
 
+-- A pair has the traces of both functions.
 abbrev pub PairHasTraces : Type 0
 PairHasTraces = (subject : Comparison) (index : ℕ) (pair : Pair) → IsPair subject index pair → HasTraces subject pair
