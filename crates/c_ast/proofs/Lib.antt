@@ -1,3 +1,4 @@
+pub mod Division
 pub mod Levels
 pub mod Fronts
 pub mod Choosing

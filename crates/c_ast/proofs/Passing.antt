@@ -151,7 +151,7 @@ module _ (f : Program) where
       let scope = first_variables f.params in
       record {
         nested = (within_itself scope, formed_reads f.body f.vars scope false formed.formed, tt);
-        agree = agree_itself f.vars scope (spread scope f.vars inputs) (length-spread_from scope 0 f.vars inputs);
+        agree = agree_itself f.vars scope (spread scope f.vars inputs) (length-spread_from (pos 0) scope 0 f.vars inputs);
         ahead = ahead_at_start f;
       }
 
