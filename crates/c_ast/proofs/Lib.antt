@@ -22,3 +22,4 @@ pub mod Agreeing
 pub mod Nesting
 pub mod Stepping
 pub mod Passing
+pub mod Laws
