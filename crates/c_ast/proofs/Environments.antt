@@ -1,12 +1,8 @@
 -- The first environment, and the values of the variables in scope.
-use Rattle.std.proofs.Common.{◌≡◌, ℕ, zero, suc, ◌+◌, ◌-◌, ◌<◌, ◌≤◌, Bool, true, false, nat_lt, List, [], ◌∷◌, ◌++◌, map, length, get_or, take, take_all, drop, ℤ, pos, refl, sym, ap, ◌∙◌, subst, arith, append_assoc, append-nil, drop-cons, drop_of_length-le}
+use Rattle.std.proofs.Common.{◌≡◌, ℕ, zero, suc, ◌+◌, ◌-◌, ◌<◌, ◌≤◌, Bool, true, false, nat_lt, List, [], ◌∷◌, ◌++◌, map, length, get_or, drop, ℤ, pos, refl, sym, ap, ◌∙◌, subst, arith, append_assoc, append-nil, drop-cons, drop_of_length-le}
 use Rattle.std.proofs.lemmas.Bool.Decides.{nat_tests}
-use Rattle.c_ast.specs.declared.place.Place.{Place}
-use Rattle.c_ast.specs.declared.place.Place.TheVariants as place
-use Rattle.c_ast.specs.Tree.{Program}
-use Rattle.c_ast.specs.Segment.{GoesOnFrom}
-use Rattle.c_ast.specs.Step.{Work, scope_of, Scope, is_in, first_variables, with_value, values_from, values_in, spread_from, spread}
-use Rattle.c_ast.specs.Scope.{with_variable, variables_from, variables_in, AreInScope}
+use Rattle.c_ast.specs.Step.{Scope, is_in, first_variables, with_value, values_from, values_in, spread_from, spread}
+use Rattle.c_ast.specs.Scope.{with_variable, variables_from, variables_in}
 use Rattle.c_ast.proofs.InScope.{is_in-first_variables}
 
 -- ---- the inputs, and 0 behind them
