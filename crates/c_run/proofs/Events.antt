@@ -16,7 +16,8 @@ in_scope-below f p variables listed work from scope same k below =
     let below' : k < length (variables_in (scope_of work) f.vars) = subst (λ (z : List ℕ). k < length z) is below in
     subst (λ (z : List ℕ). get_or z k 0 < f.vars) (sym is) (listed_are_below (scope_of work) f.vars k 0 below')
 
-pub event_is : (f : Program) (mark : ℕ) (env : List ℤ) (variables listed : List ℕ) (k : ℕ) (values : List ℤ) → length env ≡ f.vars → AreInScope f (place.Mark mark) variables → listed ≡ variables
+pub event_is : (f : Program) (mark : ℕ) (env : List ℤ) (variables listed : List ℕ) (k : ℕ) (values : List ℤ) → length env ≡ f.vars
+    → AreInScope f (place.Mark mark) variables → listed ≡ variables
     → length listed ≤ k → values ≡ map (λ (y : ℕ). get_or env y (pos 0)) (take k listed) → IsEvent f mark env (record { mark = mark; values = values })
 event_is f mark env variables listed k values len scope same all values_is = record {
   mark_is = refl;

@@ -46,7 +46,8 @@ bare_to (Test s l ∷ w) = bare_to w
 bare_to (run.Cond s l ∷ w) = bare_to w
 bare_to (Tail s l ∷ w) = ap (λ (z : Work). Tail [] l ∷ z) (bare-bare w)
 
-bare_entered : (t : Bool) (s : Scope) (l : LoopParts) (c : Statements) (w : Work) → bare (entered t [] l (Run [] c ∷ bare w)) ≡ bare (entered t s l (Run s c ∷ w))
+bare_entered : (t : Bool) (s : Scope) (l : LoopParts) (c : Statements) (w : Work) → bare (entered t [] l (Run [] c ∷ bare w))
+    ≡ bare (entered t s l (Run s c ∷ w))
 bare_entered true s l c w = ap (λ (z : Work). Test [] l ∷ (Run [] c ∷ z)) (bare-bare w)
 bare_entered false s l c w = ap (λ (z : Work). Run [] l.body ∷ (Tail [] l ∷ (Run [] c ∷ z))) (bare-bare w)
 
@@ -54,7 +55,8 @@ bare_turned : (t : Bool) (s : Scope) (l : LoopParts) (w : Work) → bare (turned
 bare_turned true s l w = ap (λ (z : Work). Run [] l.body ∷ (Tail [] l ∷ z)) (bare-bare w)
 bare_turned false s l w = bare-bare w
 
-bare_tested : (m : Option ℕ) (s : Scope) (l : LoopParts) (w : Work) (env : List ℤ) → bare_next (tested m (run.Cond [] l ∷ bare w) env) ≡ bare_next (tested m (run.Cond s l ∷ w) env)
+bare_tested : (m : Option ℕ) (s : Scope) (l : LoopParts) (w : Work) (env : List ℤ) → bare_next (tested m (run.Cond [] l ∷ bare w) env)
+    ≡ bare_next (tested m (run.Cond s l ∷ w) env)
 bare_tested None s l w env = ap (λ (z : Work). run.Goes (run.Cond [] l ∷ z) env) (bare-bare w)
 bare_tested (Some k) s l w env = ap (λ (z : Work). run.Passes k (run.Cond [] l ∷ z) env) (bare-bare w)
 
@@ -109,11 +111,13 @@ NextWithin n (run.Goes w env) = IsWorkWithin n w
 NextWithin n (run.Passes k w env) = IsWorkWithin n w
 NextWithin n (run.Ends v) = Unit {0}
 
-within_if : (n : ℕ) (t : Bool) (s : Scope) (a b c : Statements) (w : Work) → AreWithin n a → AreWithin n b → AreWithin n c → IsWorkWithin n w → IsWorkWithin n (Run s (cond t a b) ∷ Run s c ∷ w)
+within_if : (n : ℕ) (t : Bool) (s : Scope) (a b c : Statements) (w : Work) → AreWithin n a → AreWithin n b → AreWithin n c → IsWorkWithin n w
+    → IsWorkWithin n (Run s (cond t a b) ∷ Run s c ∷ w)
 within_if n true s a b c w p q r h = (p, (r, h))
 within_if n false s a b c w p q r h = (q, (r, h))
 
-within_entered : (n : ℕ) (t : Bool) (s : Scope) (l : LoopParts) (c : Statements) (w : Work) → IsLoopWithin n l → AreWithin n c → IsWorkWithin n w → IsWorkWithin n (entered t s l (Run s c ∷ w))
+within_entered : (n : ℕ) (t : Bool) (s : Scope) (l : LoopParts) (c : Statements) (w : Work) → IsLoopWithin n l → AreWithin n c → IsWorkWithin n w
+    → IsWorkWithin n (entered t s l (Run s c ∷ w))
 within_entered n true s l c w p q h = (p, (q, h))
 within_entered n false s l c w p q h = (p.body, (p, (q, h)))
 
@@ -121,7 +125,8 @@ within_turned : (n : ℕ) (t : Bool) (s : Scope) (l : LoopParts) (w : Work) → 
 within_turned n true s l w p h = (p.body, (p, h))
 within_turned n false s l w p h = h
 
-within_tested : (n : ℕ) (m : Option ℕ) (s : Scope) (l : LoopParts) (w : Work) (env : List ℤ) → IsLoopWithin n l → IsWorkWithin n w → NextWithin n (tested m (run.Cond s l ∷ w) env)
+within_tested : (n : ℕ) (m : Option ℕ) (s : Scope) (l : LoopParts) (w : Work) (env : List ℤ) → IsLoopWithin n l → IsWorkWithin n w
+    → NextWithin n (tested m (run.Cond s l ∷ w) env)
 within_tested n None s l w env p h = (p, h)
 within_tested n (Some k) s l w env p h = (p, h)
 
@@ -175,9 +180,11 @@ after_events-none (Some (outcome.Returned trace)) = refl
 after_events-none (Some outcome.Wide) = refl
 after_events-none (Some outcome.CutOff) = refl
 
-after_events-first : (events : List Event) (event : Event) (o : Option Outcome) → after_events events (with_first event o) ≡ after_events (events ++ event ∷ []) o
+after_events-first : (events : List Event) (event : Event) (o : Option Outcome) → after_events events (with_first event o)
+    ≡ after_events (events ++ event ∷ []) o
 after_events-first events event None = refl
-after_events-first events event (Some (outcome.Returned trace)) = ap (λ (l : List Event). outcome.Returned (record { events = l; result = trace.result })) (sym (append_assoc events (event ∷ []) trace.events))
+after_events-first events event (Some (outcome.Returned trace)) = ap (λ (l : List Event). outcome.Returned (record { events = l; result = trace.result }))
+    (sym (append_assoc events (event ∷ []) trace.events))
 after_events-first events event (Some outcome.Wide) = refl
 after_events-first events event (Some outcome.CutOff) = refl
 
@@ -191,7 +198,8 @@ pub record Interprets (f : Program) (o : Outcome) (left : ℕ) (events : List Ev
   pub marks : ℕ
   pub rest : o ≡ after_events events (interpreted left marks work env)
 
-pub begins : (f : Program) → IsProgram f → (inputs : List ℤ) (steps left : ℕ) (items : List Item) (env : List ℤ) → left ≡ steps → work_of items ≡ Run [] f.body ∷ []
+pub begins : (f : Program) → IsProgram f → (inputs : List ℤ) (steps left : ℕ) (items : List Item) (env : List ℤ) → left ≡ steps → work_of items
+    ≡ Run [] f.body ∷ []
     → env ≡ spread (first_variables f.params) f.vars inputs → Interprets f (outcome_within steps f inputs) left [] items env
 begins f is inputs steps left items env left_is items_are env_is = record {
   work = start f;
@@ -203,11 +211,14 @@ begins f is inputs steps left items env left_is items_are env_is = record {
   rest = rw (left_is, env_is) (after_events-none (interpreted steps 0 (start f) (spread (first_variables f.params) f.vars inputs)));
 }
 
-pub step_within : (f : Program) (o : Outcome) (left : ℕ) (events : List Event) (items : List Item) (env : List ℤ) → Interprets f o left events items env → IsWorkWithin (length env) (work_of items)
+pub step_within : (f : Program) (o : Outcome) (left : ℕ) (events : List Event) (items : List Item) (env : List ℤ) → Interprets f o left events items env
+    → IsWorkWithin (length env) (work_of items)
 step_within f o left events items env i = rw i.size (subst (IsWorkWithin f.vars) i.bare_is (bare_within f.vars i.work i.within))
 
-narrow_same : (w : Work) (items : List Item) (env : List ℤ) → bare w ≡ work_of items → evaluates_fitting (evaluated w) env ≡ evaluates_fitting (evaluated (work_of items)) env
-narrow_same w items env is = ap (λ (e : Option Expression). evaluates_fitting e env) (sym (bare_evaluated w)) ∙ ap (λ (z : Work). evaluates_fitting (evaluated z) env) is
+narrow_same : (w : Work) (items : List Item) (env : List ℤ) → bare w ≡ work_of items → evaluates_fitting (evaluated w) env
+    ≡ evaluates_fitting (evaluated (work_of items)) env
+narrow_same w items env is = ap (λ (e : Option Expression). evaluates_fitting e env) (sym (bare_evaluated w))
+    ∙ ap (λ (z : Work). evaluates_fitting (evaluated z) env) is
 
 step_same : (w : Work) (items : List Item) (env : List ℤ) → bare w ≡ work_of items → bare_next (step w env) ≡ bare_next (step (work_of items) env)
 step_same w items env is = sym (bare_step w env) ∙ ap (λ (z : Work). bare_next (step z env)) is
@@ -223,7 +234,8 @@ record Taken (f : Program) (o : Outcome) (left : ℕ) (events : List Event) (mar
   pub size : HasLength f.vars x
   pub rest : o ≡ after_events events (RestOf left marks x)
 
-taken : (f : Program) (o : Outcome) (left left' : ℕ) (events : List Event) (items : List Item) (env : List ℤ) (y : run.Next) → left ≡ suc left' → (i : Interprets f o left events items env)
+taken : (f : Program) (o : Outcome) (left left' : ℕ) (events : List Event) (items : List Item) (env : List ℤ) (y : run.Next) → left ≡ suc left'
+    → (i : Interprets f o left events items env)
     → evaluates_fitting (evaluated (work_of items)) env ≡ true → bare_next (step (work_of items) env) ≡ y → Taken f o left' events i.marks (step i.work env) y
 taken f o left left' events items env y left_is i narrow is = record {
   is = step_same i.work items env i.bare_is ∙ is;
@@ -231,19 +243,31 @@ taken f o left left' events items env y left_is i narrow is = record {
   within = within_step f.vars i.work env i.within;
   size = step_keeps_length f.vars i.work env i.size;
   rest = i.rest ∙ ap (λ (n : ℕ). after_events events (interpreted n i.marks i.work env)) left_is
-      ∙ ap (λ (t : Bool). after_events events (cond t (RestOf left' i.marks (step i.work env)) (Some outcome.Wide))) (narrow_same i.work items env i.bare_is ∙ narrow);
+      ∙ ap (λ (t : Bool). after_events events (cond t (RestOf left' i.marks (step i.work env)) (Some outcome.Wide)))
+      (narrow_same i.work items env i.bare_is ∙ narrow);
 }
 
-pub goes : (f : Program) (o : Outcome) (left left' : ℕ) (events : List Event) (items items' : List Item) (env env' : List ℤ) → left ≡ suc left' → Interprets f o left events items env
+pub goes : (f : Program) (o : Outcome) (left left' : ℕ) (events : List Event) (items items' : List Item) (env env' : List ℤ) → left ≡ suc left'
+    → Interprets f o left events items env
     → TakesStep (work_of items) env next.Goes (work_of items') env' → Interprets f o left' events items' env'
-goes f o left left' events items items' env env' left_is i t = on (step i.work env) (taken f o left left' events items env (run.Goes (work_of items') env') left_is i t.0 t.1)
+goes f o left left' events items items' env env' left_is i t = on (step i.work env)
+    (taken f o left left' events items env (run.Goes (work_of items') env') left_is i t.0 t.1)
   where
     on : (x : run.Next) → Taken f o left' events i.marks x (run.Goes (work_of items') env') → Interprets f o left' events items' env'
     on (run.Goes w e) t =
         let is : run.Goes (bare w) e ≡ run.Goes (work_of items') env' = t.is in
         let bare_is : bare w ≡ work_of items' = cc in
         let env_is : e ≡ env' = cc in
-        record { work = w; bare_is = bare_is; placed = t.placed; within = t.within; size = ap length (sym env_is) ∙ t.size; marks = i.marks; rest = t.rest ∙ ap (λ (z : List ℤ). after_events events (interpreted left' i.marks w z)) env_is }
+        record {
+          work = w;
+          bare_is = bare_is;
+          placed = t.placed;
+          within = t.within;
+          size = ap length (sym env_is) ∙ t.size;
+          marks = i.marks;
+          rest = t.rest
+              ∙ ap (λ (z : List ℤ). after_events events (interpreted left' i.marks w z)) env_is;
+        }
     on (run.Passes k w e) t = let is : run.Passes k (bare w) e ≡ run.Goes (work_of items') env' = t.is in cc
     on (run.Ends v) t = let is : run.Ends v ≡ run.Goes (work_of items') env' = t.is in cc
 
@@ -258,9 +282,11 @@ pub record Passed (f : Program) (o : Outcome) (left : ℕ) (events : List Event)
   pub marks : ℕ
   pub rest : o ≡ after_events (events ++ record { mark = mark; values = values_in (scope_of work) env } ∷ []) (interpreted left marks work env)
 
-pub passes : (f : Program) (o : Outcome) (left left' : ℕ) (events : List Event) (mark : ℕ) (items items' : List Item) (env env' : List ℤ) → left ≡ suc left' → Interprets f o left events items env
+pub passes : (f : Program) (o : Outcome) (left left' : ℕ) (events : List Event) (mark : ℕ) (items items' : List Item) (env env' : List ℤ) → left ≡ suc left'
+    → Interprets f o left events items env
     → TakesStep (work_of items) env (next.Passes mark) (work_of items') env' → Passed f o left' events mark items' env'
-passes f o left left' events mark items items' env env' left_is i t = on (step i.work env) (taken f o left left' events items env (run.Passes mark (work_of items') env') left_is i t.0 t.1)
+passes f o left left' events mark items items' env env' left_is i t = on (step i.work env)
+    (taken f o left left' events items env (run.Passes mark (work_of items') env') left_is i t.0 t.1)
   where
     on : (x : run.Next) → Taken f o left' events i.marks x (run.Passes mark (work_of items') env') → Passed f o left' events mark items' env'
     on (run.Goes w e) t = let is : run.Goes (bare w) e ≡ run.Passes mark (work_of items') env' = t.is in cc
@@ -278,15 +304,19 @@ passes f o left left' events mark items items' env env' left_is i t = on (step i
           size = ap length (sym env_is) ∙ t.size;
           marks = suc i.marks;
           rest = t.rest ∙ after_events-first events (record { mark = k; values = values_in (scope_of w) e }) (interpreted left' (suc i.marks) w e)
-              ∙ ap (λ (j : ℕ). after_events (events ++ record { mark = j; values = values_in (scope_of w) e } ∷ []) (interpreted left' (suc i.marks) w e)) mark_is
-              ∙ ap (λ (z : List ℤ). after_events (events ++ record { mark = mark; values = values_in (scope_of w) z } ∷ []) (interpreted left' (suc i.marks) w z)) env_is;
+              ∙ ap (λ (j : ℕ). after_events (events ++ record { mark = j; values = values_in (scope_of w) e } ∷ [])
+              (interpreted left' (suc i.marks) w e)) mark_is
+              ∙ ap (λ (z : List ℤ). after_events (events ++ record { mark = mark; values = values_in (scope_of w) z } ∷ [])
+              (interpreted left' (suc i.marks) w z)) env_is;
         }
     on (run.Ends v) t = let is : run.Ends v ≡ run.Passes mark (work_of items') env' = t.is in cc
 
-pub passed_place : (f : Program) (o : Outcome) (left : ℕ) (events : List Event) (mark : ℕ) (items : List Item) (env : List ℤ) → Passed f o left events mark items env → IsPlace f (place.Mark mark)
+pub passed_place : (f : Program) (o : Outcome) (left : ℕ) (events : List Event) (mark : ℕ) (items : List Item) (env : List ℤ)
+    → Passed f o left events mark items env → IsPlace f (place.Mark mark)
 passed_place f o left events mark items env p = record { work = p.work; from = p.follows }
 
-pub passed_on : (f : Program) (o : Outcome) (left : ℕ) (events : List Event) (mark : ℕ) (items : List Item) (env : List ℤ) (event : Event) → Passed f o left events mark items env → IsEvent f mark env event
+pub passed_on : (f : Program) (o : Outcome) (left : ℕ) (events : List Event) (mark : ℕ) (items : List Item) (env : List ℤ) (event : Event)
+    → Passed f o left events mark items env → IsEvent f mark env event
     → Interprets f o left (events ++ event ∷ []) items env
 passed_on f o left events mark items env event p is =
     let values : event.values ≡ values_in (scope_of p.work) env = is.values_are p.work p.follows in
@@ -302,9 +332,11 @@ passed_on f o left events mark items env event p is =
       rest = p.rest ∙ ap (λ (z : Event). after_events (events ++ z ∷ []) (interpreted left p.marks p.work env)) (sym event_is);
     }
 
-pub ends : (f : Program) (o : Outcome) (left left' : ℕ) (events : List Event) (value : ℤ) (items : List Item) (new : Work) (env env' : List ℤ) → left ≡ suc left' → Interprets f o left events items env
+pub ends : (f : Program) (o : Outcome) (left left' : ℕ) (events : List Event) (value : ℤ) (items : List Item) (new : Work) (env env' : List ℤ) → left
+    ≡ suc left' → Interprets f o left events items env
     → TakesStep (work_of items) env (next.Ends value) new env' → outcome.Returned (record { events = events; result = value }) ≡ o
-ends f o left left' events value items new env env' left_is i t = on (step i.work env) (taken f o left left' events items env (run.Ends value) left_is i t.0 t.1)
+ends f o left left' events value items new env env' left_is i t = on (step i.work env)
+    (taken f o left left' events items env (run.Ends value) left_is i t.0 t.1)
   where
     on : (x : run.Next) → Taken f o left' events i.marks x (run.Ends value) → outcome.Returned (record { events = events; result = value }) ≡ o
     on (run.Goes w e) t = let is : run.Goes (bare w) e ≡ run.Ends value = t.is in cc
@@ -312,13 +344,16 @@ ends f o left left' events value items new env env' left_is i t = on (step i.wor
     on (run.Ends v) t =
         let is : run.Ends v ≡ run.Ends value = t.is in
         let value_is : v ≡ value = cc in
-        sym (t.rest ∙ ap (λ (l : List Event). outcome.Returned (record { events = l; result = v })) (append-nil events) ∙ ap (λ (z : ℤ). outcome.Returned (record { events = events; result = z })) value_is)
+        sym (t.rest ∙ ap (λ (l : List Event). outcome.Returned (record { events = l; result = v })) (append-nil events)
+        ∙ ap (λ (z : ℤ). outcome.Returned (record { events = events; result = z })) value_is)
 
-pub meets_wide : (f : Program) (o : Outcome) (left left' : ℕ) (events : List Event) (items : List Item) (new : Work) (env env' : List ℤ) → left ≡ suc left' → Interprets f o left events items env
+pub meets_wide : (f : Program) (o : Outcome) (left left' : ℕ) (events : List Event) (items : List Item) (new : Work) (env env' : List ℤ) → left ≡ suc left'
+    → Interprets f o left events items env
     → TakesStep (work_of items) env next.Wide new env' → outcome.Wide ≡ o
 meets_wide f o left left' events items new env env' left_is i t =
     sym (i.rest ∙ ap (λ (n : ℕ). after_events events (interpreted n i.marks i.work env)) left_is
     ∙ ap (λ (t : Bool). after_events events (cond t (RestOf left' i.marks (step i.work env)) (Some outcome.Wide))) (narrow_same i.work items env i.bare_is ∙ t))
 
-pub cut_off : (f : Program) (o : Outcome) (left : ℕ) (events : List Event) (items : List Item) (env : List ℤ) → left ≡ 0 → Interprets f o left events items env → outcome.CutOff ≡ o
+pub cut_off : (f : Program) (o : Outcome) (left : ℕ) (events : List Event) (items : List Item) (env : List ℤ) → left ≡ 0 → Interprets f o left events items env
+    → outcome.CutOff ≡ o
 cut_off f o left events items env left_is i = sym (i.rest ∙ ap (λ (n : ℕ). after_events events (interpreted n i.marks i.work env)) left_is)

@@ -86,7 +86,8 @@ takes-If others a b c e env value items mid new given put chosen put' =
     let value_is : value ≡ eval (expression_of e) env = v.is in
     (v.narrow, (rw (put', chosen, put, bared, value_is)))
 
-pub takes-Loop : (stmts others body step : List Stmt) (mark : Option ℕ) (cond : Expr) (test_first : Bool) (loop : LoopParts) (env : List ℤ) (items mid new : List Item)
+pub takes-Loop : (stmts others body step : List Stmt) (mark : Option ℕ) (cond : Expr) (test_first : Bool) (loop : LoopParts) (env : List ℤ)
+    (items mid new : List Item)
     → statements_of stmts ≡ put_in_front (Loop mark cond body step test_first) (statements_of others)
     → loop ≡ record { mark = mark; cond = expression_of cond; body = statements_of body; step = statements_of step }
     → work_of mid ≡ Run [] (statements_of others) ∷ work_of items → work_of new ≡ entered test_first [] loop (work_of mid)
@@ -96,30 +97,38 @@ takes-Loop stmts others body step mark cond test_first loop env items mid new is
     (is ∙ fronts.loop mark cond body step test_first _)
     (refl, ap (λ (z : Work). run.Goes z env) (bare_entered test_first loop _ others items loop_is ∙ ap (entered test_first [] loop) (sym put) ∙ sym put'))
   where
-    bare_entered : (t : Bool) (l l' : LoopParts) (others : List Stmt) (items : List Item) → l ≡ l' → bare (entered t [] l' (Run [] (statements_of others) ∷ work_of items)) ≡ entered t [] l (Run [] (statements_of others) ∷ work_of items)
+    bare_entered : (t : Bool) (l l' : LoopParts) (others : List Stmt) (items : List Item) → l ≡ l'
+        → bare (entered t [] l' (Run [] (statements_of others) ∷ work_of items)) ≡ entered t [] l (Run [] (statements_of others) ∷ work_of items)
     bare_entered true l l' others items same = rw (same, (bare_work_of items).is)
     bare_entered false l l' others items same = rw (same, (bare_work_of items).is)
 
-pub takes-Break : (stmts others : List Stmt) (env : List ℤ) (items new : List Item) (tail : Option Parts) → statements_of stmts ≡ put_in_front Break (statements_of others)
+pub takes-Break : (stmts others : List Stmt) (env : List ℤ) (items new : List Item) (tail : Option Parts) → statements_of stmts
+    ≡ put_in_front Break (statements_of others)
     → Cuts (work_of items) tail (work_of new) → TakesStep (Run [] (statements_of stmts) ∷ work_of items) env next.Goes (work_of new) env
 takes-Break stmts others env items new tail is cuts =
-    along stmts (tree.Break (statements_of others)) _ _ env _ next.Goes (is ∙ fronts.break_ _) (refl, rw cuts.past (ap (λ (z : Work). run.Goes z env) (bare_work_of new).is))
+    along stmts (tree.Break (statements_of others)) _ _ env _ next.Goes (is ∙ fronts.break_ _)
+    (refl, rw cuts.past (ap (λ (z : Work). run.Goes z env) (bare_work_of new).is))
 
 pub takes-Continue : (stmts others : List Stmt) (env : List ℤ) (items new : List Item) → statements_of stmts ≡ put_in_front Continue (statements_of others)
     → work_of new ≡ to_tail (work_of items) → TakesStep (Run [] (statements_of stmts) ∷ work_of items) env next.Goes (work_of new) env
 takes-Continue stmts others env items new is to =
-    along stmts (tree.Continue (statements_of others)) _ _ env _ next.Goes (is ∙ fronts.continue_ _) (refl, rw (← to) (ap (λ (z : Work). run.Goes z env) (bare_work_of new).is))
+    along stmts (tree.Continue (statements_of others)) _ _ env _ next.Goes (is ∙ fronts.continue_ _)
+    (refl, rw (← to) (ap (λ (z : Work). run.Goes z env) (bare_work_of new).is))
 
-pub takes-Mark : (stmts others : List Stmt) (mark : ℕ) (env : List ℤ) (items new : List Item) → statements_of stmts ≡ put_in_front (Mark mark) (statements_of others)
-    → work_of new ≡ Run [] (statements_of others) ∷ work_of items → TakesStep (Run [] (statements_of stmts) ∷ work_of items) env (next.Passes mark) (work_of new) env
+pub takes-Mark : (stmts others : List Stmt) (mark : ℕ) (env : List ℤ) (items new : List Item) → statements_of stmts
+    ≡ put_in_front (Mark mark) (statements_of others)
+    → work_of new ≡ Run [] (statements_of others) ∷ work_of items
+    → TakesStep (Run [] (statements_of stmts) ∷ work_of items) env (next.Passes mark) (work_of new) env
 takes-Mark stmts others mark env items new is put =
     along stmts (tree.Mark mark (statements_of others)) _ _ env _ (next.Passes mark) (is ∙ fronts.mark mark _) (refl, rw (put, (bare_work_of items).is))
 
-pub takes-Block : (stmts others a c : List Stmt) (env : List ℤ) (items mid new : List Item) → statements_of stmts ≡ put_in_front (Block a) (statements_of others)
+pub takes-Block : (stmts others a c : List Stmt) (env : List ℤ) (items mid new : List Item) → statements_of stmts
+    ≡ put_in_front (Block a) (statements_of others)
     → work_of mid ≡ Run [] (statements_of others) ∷ work_of items → c ≡ a → work_of new ≡ Run [] (statements_of c) ∷ work_of mid
     → TakesStep (Run [] (statements_of stmts) ∷ work_of items) env next.Goes (work_of new) env
 takes-Block stmts others a c env items mid new is put same put' =
-    along stmts (tree.Block (statements_of a) (statements_of others)) _ _ env _ next.Goes (is ∙ fronts.block a _) (refl, rw (put', same, put, (bare_work_of items).is))
+    along stmts (tree.Block (statements_of a) (statements_of others)) _ _ env _ next.Goes (is ∙ fronts.block a _)
+    (refl, rw (put', same, put, (bare_work_of items).is))
 
 -- ---- a step for each kind of item
 
@@ -129,14 +138,17 @@ front_of old others i kind is same = ap work_of is ∙ ap (λ (z : Item). item_o
 along_work : (old work new : Work) (env env' : List ℤ) (next : Next) → old ≡ work → TakesStep work env next new env' → TakesStep old env next new env'
 along_work old work new env env' next is takes = subst (λ (z : Work). TakesStep z env next new env') (sym is) takes
 
-pub takes-Test : (old : Work) (others new : List Item) (loop : LoopParts) (mark : Option ℕ) (env : List ℤ) (got : Next) → old ≡ Test [] loop ∷ work_of others → loop.mark ≡ mark
+pub takes-Test : (old : Work) (others new : List Item) (loop : LoopParts) (mark : Option ℕ) (env : List ℤ) (got : Next) → old ≡ Test [] loop ∷ work_of others
+    → loop.mark ≡ mark
     → IsTested mark got → work_of new ≡ Cond [] loop ∷ work_of others → TakesStep old env got (work_of new) env
-takes-Test old others new loop mark env got is mark_is told put = along_work old (Test [] loop ∷ work_of others) (work_of new) env env got is (on mark got mark_is told)
+takes-Test old others new loop mark env got is mark_is told put = along_work old (Test [] loop ∷ work_of others)
+    (work_of new) env env got is (on mark got mark_is told)
   where
     bared : Cond [] loop ∷ bare (work_of others) ≡ work_of new
     bared = ap (λ (z : Work). Cond [] loop ∷ z) (bare_work_of others).is ∙ sym put
 
-    at : (mark : Option ℕ) → loop.mark ≡ mark → bare_next (step (Test [] loop ∷ work_of others) env) ≡ bare_next (tested mark (Cond [] loop ∷ work_of others) env)
+    at : (mark : Option ℕ) → loop.mark ≡ mark → bare_next (step (Test [] loop ∷ work_of others) env)
+        ≡ bare_next (tested mark (Cond [] loop ∷ work_of others) env)
     at mark mark_is = ap (λ (m : Option ℕ). bare_next (tested m (Cond [] loop ∷ work_of others) env)) mark_is
 
     on : (mark : Option ℕ) (got : Next) → loop.mark ≡ mark → IsTested mark got → TakesStep (Test [] loop ∷ work_of others) env got (work_of new) env
@@ -145,18 +157,26 @@ takes-Test old others new loop mark env got is mark_is told put = along_work old
     on None (next.Ends v) mark_is told = absurd told
     on None next.Wide mark_is told = absurd told
     on (Some k) next.Goes mark_is told = absurd told
-    on (Some k) (next.Passes passed) mark_is told = (refl, at (Some k) mark_is ∙ ap (λ (z : Work). run.Passes k z env) bared ∙ ap (λ (j : ℕ). run.Passes j (work_of new) env) (sym told))
+    on (Some k) (next.Passes passed) mark_is told = (
+      refl,
+      at (Some k) mark_is ∙ ap (λ (z : Work). run.Passes k z env) bared
+          ∙ ap (λ (j : ℕ). run.Passes j (work_of new) env) (sym told),
+    )
     on (Some k) (next.Ends v) mark_is told = absurd told
     on (Some k) next.Wide mark_is told = absurd told
 
-pub takes-Cond : (old : Work) (others new : List Item) (parts : Parts) (env : List ℤ) (value : ℤ) (turns : Bool) → old ≡ Cond [] (loop_of parts) ∷ work_of others
+pub takes-Cond : (old : Work) (others new : List Item) (parts : Parts) (env : List ℤ) (value : ℤ) (turns : Bool) → old
+    ≡ Cond [] (loop_of parts) ∷ work_of others
     → Some value ≡ fitting_value (expression_of parts.cond.now) env → is_nonzero value ≡ turns → work_of new ≡ turned turns [] (loop_of parts) (work_of others)
     → TakesStep old env next.Goes (work_of new) env
 takes-Cond old others new parts env value turns is given decides put =
     let v = value_some (expression_of parts.cond.now) env value given in
     let decided : is_nonzero (eval (expression_of parts.cond.now) env) ≡ turns = ap is_nonzero (sym v.is) ∙ decides in
-    along_work old (Cond [] (loop_of parts) ∷ work_of others) (work_of new) env env next.Goes is
-    (v.narrow, ap (λ (t : Bool). run.Goes (bare (turned t [] (loop_of parts) (work_of others))) env) decided ∙ ap (λ (z : Work). run.Goes z env) (bare_turned turns ∙ sym put))
+    along_work old (Cond [] (loop_of parts) ∷ work_of others) (work_of new) env env next.Goes is (
+      v.narrow,
+      ap (λ (t : Bool). run.Goes (bare (turned t [] (loop_of parts) (work_of others))) env) decided
+          ∙ ap (λ (z : Work). run.Goes z env) (bare_turned turns ∙ sym put),
+    )
   where
     bare_turned : (t : Bool) → bare (turned t [] (loop_of parts) (work_of others)) ≡ turned t [] (loop_of parts) (work_of others)
     bare_turned true = rw (bare_work_of others).is

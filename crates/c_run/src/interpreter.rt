@@ -13,8 +13,9 @@ ghost use Rattle.c_run.specs.Event.{IsEvent};
 ghost use Rattle.c_run.specs.Shown.{loop_of, item_of, work_of, TakesStep, IsTested, Cuts};
 ghost use Rattle.c_run.specs.Within.{AreWithin, IsWorkWithin};
 
-use c_ast::{Event, Expr, Func, Outcome, Place, Stmt, Trace};
-use c_ast::{first_environment, is_nonzero, value_of};
+use c_ast::{
+    Event, Expr, Func, Outcome, Place, Stmt, Trace, first_environment, is_nonzero, value_of,
+};
 use sqlite_items::Items;
 use std::alloc::{AllocError, Global};
 use std::collections::VecDeque;
@@ -70,7 +71,8 @@ fn cut<'a>(work: &mut VecDeque<Item<'a>>) -> Option<Parts<'a>>
 /// A turn of a loop: its body, and then what follows it.
 fn turn<'a>(work: &mut VecDeque<Item<'a>>, parts: Parts<'a>) -> Result<(), AllocError>
     ensures { OnOk result (work_of work.new.items
-        ≡ Run [] (statements_of parts.entry.body.now) ∷ Tail [] (loop_of parts.entry) ∷ work_of work.old.items) }
+        ≡ Run [] (statements_of parts.entry.body.now) ∷ Tail [] (loop_of parts.entry)
+        ∷ work_of work.old.items) }
 {
     put(work, Item::Tail(parts))?;
     put(work, Item::Run(parts.body))?;
@@ -83,7 +85,8 @@ fn enter<'a>(
     parts: Parts<'a>,
     test_first: bool,
 ) -> Result<(), AllocError>
-    ensures { OnOk result (work_of work.new.items ≡ entered test_first [] (loop_of parts.entry) (work_of work.old.items)) }
+    ensures { OnOk result (work_of work.new.items
+        ≡ entered test_first [] (loop_of parts.entry) (work_of work.old.items)) }
 {
     if test_first {
         put(work, Item::Test(parts))?;
@@ -115,7 +118,8 @@ fn tested(mark: Option<u32>) -> Next
 
 /// The branch of an `if` that its condition's value chooses (6.8.4.1).
 fn branch<'a>(value: i128, a: &'a Items<Stmt>, b: &'a Items<Stmt>) -> &'a [Stmt]
-    ensures { statements_of result.now ≡ (if is_nonzero value then statements_of a.now else statements_of b.now) }
+    ensures { statements_of result.now
+        ≡ (if is_nonzero value then statements_of a.now else statements_of b.now) }
 {
     if is_nonzero(value) {
         a.as_slice()
@@ -131,7 +135,12 @@ fn parts_of<'a>(
     body: &'a Items<Stmt>,
     step: &'a Items<Stmt>,
 ) -> Parts<'a>
-    ensures { loop_of result ≡ record { mark = mark; cond = expression_of cond.now; body = statements_of body.now; step = statements_of step.now } }
+    ensures { loop_of result ≡ record {
+      mark = mark;
+      cond = expression_of cond.now;
+      body = statements_of body.now;
+      step = statements_of step.now;
+    } }
 {
     Parts {
         mark,
@@ -149,9 +158,11 @@ fn run_set<'a>(
     others: &'a [Stmt],
     environment: &mut [i128],
 ) -> Result<Next, AllocError>
-    requires { AreWithin (length environment.old) (tree.Set x (expression_of e.now) (statements_of others.now)) }
+    requires { AreWithin (length environment.old)
+        (tree.Set x (expression_of e.now) (statements_of others.now)) }
     ensures { IfOk result (λ next. TakesStep
-        (Run [] (tree.Set x (expression_of e.now) (statements_of others.now)) ∷ work_of work.old.items) environment.old
+        (Run [] (tree.Set x (expression_of e.now) (statements_of others.now))
+        ∷ work_of work.old.items) environment.old
         next (work_of work.new.items) environment.new) }
 {
     let Some(value) = value_of(e, environment) else {
@@ -173,7 +184,8 @@ fn run_if<'a>(
 ) -> Result<Next, AllocError>
     requires { CanEvaluate (length environment.now) (expression_of e.now) }
     ensures { IfOk result (λ next. TakesStep
-        (Run [] (tree.If (expression_of e.now) (statements_of a.now) (statements_of b.now) (statements_of others.now))
+        (Run [] (tree.If (expression_of e.now) (statements_of a.now) (statements_of b.now)
+        (statements_of others.now))
         ∷ work_of work.old.items) environment.now next (work_of work.new.items) environment.now) }
 {
     let Some(value) = value_of(e, environment) else {
@@ -294,7 +306,8 @@ pub fn interpret(
     steps: u32,
 ) -> Result<Outcome, AllocError>
     requires { length inputs.now ≡ func.now.params }
-    ensures { IfOk result (λ outcome. outcome ≡ outcome_within steps (program_of func.now) inputs.now) }
+    ensures { IfOk result
+        (λ outcome. outcome ≡ outcome_within steps (program_of func.now) inputs.now) }
 {
     let body = func.body();
     let mut values = first_environment(alloc, func.vars().len(), inputs)?;

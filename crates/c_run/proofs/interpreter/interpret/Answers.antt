@@ -26,7 +26,8 @@ loop-taken-init c =
 
 pub step-requires : goal.step-requires
 step-requires c =
-    step_within (program_of c.args.func.now) (outcome_within c.args.steps (program_of c.args.func.now) c.args.inputs.now) (c.args.steps - c.loop-taken._taken) c.loop-taken.events c.loop-taken.work.items
+    step_within (program_of c.args.func.now) (outcome_within c.args.steps (program_of c.args.func.now) c.args.inputs.now)
+    (c.args.steps - c.loop-taken._taken) c.loop-taken.events c.loop-taken.work.items
     c.loop-taken.environment c.loop-taken.invariant
 
 pub event-requires-clause-place : goal.event-requires-clause-place
@@ -45,7 +46,8 @@ returns-in-Ends c =
     let fits : FitsSigned w128 c.in-Ends.result = search rules in
     let takes = subst (λ (n : Next). TakesStep (work_of c.loop-taken.work.items) c.loop-taken.environment n (work_of c.step.new.work.items) c.step.new.environment) c.in-Ends.is c.in_ok-step.ensures in
     rw (to_z-of_z fits)
-    (ends f o (c.args.steps - c.loop-taken._taken) (c.args.steps - (c.loop-taken._taken + 1)) c.loop-taken.events c.in-Ends.result c.loop-taken.work.items (work_of c.step.new.work.items) c.loop-taken.environment
+    (ends f o (c.args.steps - c.loop-taken._taken)
+    (c.args.steps - (c.loop-taken._taken + 1)) c.loop-taken.events c.in-Ends.result c.loop-taken.work.items (work_of c.step.new.work.items) c.loop-taken.environment
     c.step.new.environment (omega arith) c.loop-taken.invariant takes)
 
 pub returns-in-Wide : goal.returns-in-Wide
@@ -53,7 +55,8 @@ returns-in-Wide c =
     let f = program_of c.args.func.now in
     let o = outcome_within c.args.steps f c.args.inputs.now in
     let takes = subst (λ (n : Next). TakesStep (work_of c.loop-taken.work.items) c.loop-taken.environment n (work_of c.step.new.work.items) c.step.new.environment) c.in-Wide.is c.in_ok-step.ensures in
-    meets_wide f o (c.args.steps - c.loop-taken._taken) (c.args.steps - (c.loop-taken._taken + 1)) c.loop-taken.events c.loop-taken.work.items (work_of c.step.new.work.items) c.loop-taken.environment
+    meets_wide f o (c.args.steps - c.loop-taken._taken)
+    (c.args.steps - (c.loop-taken._taken + 1)) c.loop-taken.events c.loop-taken.work.items (work_of c.step.new.work.items) c.loop-taken.environment
     c.step.new.environment (omega arith) c.loop-taken.invariant takes
 
 pub loop-taken-preserved : goal.loop-taken-preserved
