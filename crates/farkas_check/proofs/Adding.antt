@@ -9,9 +9,9 @@ use Rattle.std.proofs.lemmas.List.{length-map, drop_more, get_or_past, get_or-ma
 use Rattle.std.proofs.lemmas.List.Elements.{All-get_or, All-from_get_or, All-take, All-drop, recursion_from_All}
 use Rattle.lin_terms.specs.declared.row.Row.{Row}
 use Rattle.lin_terms.specs.Vectors.{dot}
-use Rattle.lin_terms.specs.Row.{IsNarrow, IsNarrowRow, columns_of, HaveOneLength}
-use Rattle.lin_terms.proofs.Dots.{get_or-zeros}
-use Rattle.lin_terms.proofs.Entries.{get_or_all}
+use Rattle.lin_terms.specs.Bounds.{FitsRow}
+use Rattle.lin_terms.specs.Row.{IsFittingRow, columns_of, HaveOneLength}
+use Rattle.lin_terms.proofs.Laws.{get_or-zeros, dot-drop}
 use Rattle.farkas_check.specs.Refutes.{column, constants, MayMultiply, Refutes}
 use Rattle.farkas_check.proofs.Wide.{unsigned_abs-product, unsigned_abs-sum}
 
@@ -22,7 +22,7 @@ pub summed : (ms xs : List ℤ) (i : ℕ) (sum product all : ℤ) → i < length
     → sum +ℤ dot (drop i ms) (drop i xs) ≡ all
     → (sum +ℤ product) +ℤ dot (drop (i + 1) ms) (drop (i + 1) xs) ≡ all
 summed ms xs i sum product all in_ms in_xs is so_far =
-    let next = rw (drop_more ms i (pos 0) in_ms, drop_more xs i (pos 0) in_xs, ← is) at so_far in
+    let next = rw (dot-drop ms xs i in_ms, ← is) at so_far in
     omega (arith, ints)
 
 pub grown : (i : ℕ) (sum product : ℤ) → unsigned_abs sum ≤ i * 2 ^ 112 → unsigned_abs product < 2 ^ 112
@@ -83,21 +83,24 @@ zeros_sum n k all = rw (get_or-zeros n k) (omega (arith, ints))
 pub zeros_bound : (n k : ℕ) → unsigned_abs (get_or (replicate n (pos 0)) k (pos 0)) ≤ 0
 zeros_bound n k = rw (get_or-zeros n k) (omega arith)
 
-narrow_row : (rows : List Row) (i : ℕ) (row : Row) → i < length rows → row ≡ get_or rows i row → All IsNarrowRow rows → IsNarrowRow row
-narrow_row rows i row below is narrow = subst IsNarrowRow (sym is) (narrow i row below)
+row_fits : (rows : List Row) (i : ℕ) (row : Row) → i < length rows → row ≡ get_or rows i row → All IsFittingRow rows → IsFittingRow row
+row_fits rows i row below is fit = subst IsFittingRow (sym is) (fit i row below)
 
-pub narrow_block : (rows : List Row) (i first : ℕ) (row : Row) → i < length rows → row ≡ get_or rows i row → All IsNarrowRow rows
-    → All IsNarrow (take 32 (drop first row.coefs))
-narrow_block rows i first row below is narrow =
-    All-take IsNarrow 32 (drop first row.coefs) (All-drop IsNarrow first row.coefs (narrow_row rows i row below is narrow).coefs)
+pub block_fits : (rows : List Row) (i first : ℕ) (row : Row) → i < length rows → row ≡ get_or rows i row → All IsFittingRow rows
+    → All FitsRow (take 32 (drop first row.coefs))
+block_fits rows i first row below is fit =
+    All-take FitsRow 32 (drop first row.coefs) (All-drop FitsRow first row.coefs (row_fits rows i row below is fit).coefs)
 
-narrow_entry : (entries : List ℤ) (k : ℕ) → All IsNarrow entries → IsNarrow (get_or entries k (pos 0))
-narrow_entry entries k narrow = get_or_all IsNarrow entries k (pos 0) (lit< tt) (recursion_from_All IsNarrow entries narrow)
+entry_fits : (entries : List ℤ) (k : ℕ) → All FitsRow entries → FitsRow (get_or entries k (pos 0))
+entry_fits entries k fit =
+    ⊎_elim (λ (h : k < length entries). All-get_or FitsRow entries k (pos 0) h fit)
+    (λ (h : length entries ≤ k). let zero : FitsRow (pos 0) = lit< tt in subst FitsRow (sym (get_or_past entries k (pos 0) h)) zero)
+    (cases_lt k (length entries))
 
-pub block_bound : (i k : ℕ) (m old new : ℤ) (entries : List ℤ) → IsNarrow m → All IsNarrow entries
+pub block_bound : (i k : ℕ) (m old new : ℤ) (entries : List ℤ) → FitsRow m → All FitsRow entries
     → new ≡ old +ℤ (m *ℤ get_or entries k (pos 0)) → unsigned_abs old ≤ i * 2 ^ 112 → unsigned_abs new ≤ (i + 1) * 2 ^ 112
-block_bound i k m old new entries narrow_m narrow is bound =
-    rw is (grown i old (m *ℤ get_or entries k (pos 0)) bound (unsigned_abs-product m (get_or entries k (pos 0)) narrow_m (narrow_entry entries k narrow)))
+block_bound i k m old new entries m_fits fit is bound =
+    rw is (grown i old (m *ℤ get_or entries k (pos 0)) bound (unsigned_abs-product m (get_or entries k (pos 0)) m_fits (entry_fits entries k fit)))
 
 -- a block as the code takes it
 pub block_of : (first : ℕ) (coefs : List ℤ)

@@ -13,5 +13,5 @@ mod sums;
 #[cfg(test)]
 mod tests;
 
-pub use law::refutable_rows_have_no_point;
-pub use multipliers::refutes;
+pub use law::{law_of_idle_rows, refutable_rows_have_no_point};
+pub use multipliers::{is_checkable, refutes};

@@ -4,7 +4,19 @@ ghost use Rattle.lin_terms.specs.Row.{HasNoPoint, HasNoIntegerPoint};
 ghost use Rattle.farkas_check.specs.Refutes.{MayMultiply, Refutes, RefutesBlock, IsCheckable};
 
 use crate::sums::{WIDTH, add_entries, block, product};
-use lin_terms::{Row, columns_of};
+use lin_terms::{MOST_ROWS, Row, are_fitting_rows, columns_of, fit_rows, have_one_length};
+
+/// Whether the check may be asked: at most 4,096 rows of one length, a multiplier for each, and all entries and multipliers
+/// below 2^56 in size.
+pub fn is_checkable(rows: &[Row], multipliers: &[i128]) -> bool
+    ensures { IsTrue result ↔ IsCheckable rows.now multipliers.now }
+{
+    rows.len() <= MOST_ROWS
+        && have_one_length(rows)
+        && multipliers.len() == rows.len()
+        && are_fitting_rows(rows)
+        && fit_rows(multipliers)
+}
 
 fn may_multiply(row: &Row, multiplier: &i128) -> bool
     ensures { IsTrue result ↔ MayMultiply row.now multiplier.now }

@@ -2,7 +2,7 @@
 //!
 //! The columns are added up in blocks, so that rows of at most `WIDTH` columns are walked once.
 ghost use Rattle.std.specs.Prelude.{◌≡◌, ℕ, ◌<◌, ◌≤◌, ◌^◌, ◌+ℤ◌, ◌*ℤ◌, pos, unsigned_abs, All, length, slice_index_or, take, drop};
-ghost use Rattle.lin_terms.specs.Row.{IsNarrow};
+ghost use Rattle.lin_terms.specs.Bounds.{FitsRow};
 
 use lin_terms::Row;
 
@@ -11,8 +11,8 @@ pub const WIDTH: usize = 32;
 
 /// A multiplier times an entry of its row.
 pub fn product(multiplier: &i128, entry: &i64) -> i128
-    requires narrow_multiplier { IsNarrow multiplier.now }
-    requires narrow { IsNarrow entry.now }
+    requires multiplier_fits { FitsRow multiplier.now }
+    requires fits { FitsRow entry.now }
     ensures value { result ≡ multiplier.now *ℤ entry.now }
     ensures small { unsigned_abs result < 2 ^ 112 }
 {
@@ -22,8 +22,8 @@ pub fn product(multiplier: &i128, entry: &i64) -> i128
 /// Adds the entries, each times the multiplier, to the sums that stand at their places.
 pub fn add_entries(sums: &mut [i128], multiplier: &i128, entries: &[i64])
     requires lengths { length entries.now ≤ length sums.old }
-    requires narrow_multiplier { IsNarrow multiplier.now }
-    requires narrow { All IsNarrow entries.now }
+    requires multiplier_fits { FitsRow multiplier.now }
+    requires fit { All FitsRow entries.now }
     requires room { All (λ sum. unsigned_abs sum < 2 ^ 126) sums.old }
     ensures { (k : ℕ) → slice_index_or sums.new k (pos 0)
         ≡ slice_index_or sums.old k (pos 0) +ℤ (multiplier.now *ℤ slice_index_or entries.now k (pos 0)) }

@@ -3,11 +3,11 @@ use Rattle.std.specs.Int.{w128}
 use Rattle.std.specs.Prelude.{ℤ, negsuc, ◌≤ℤ◌, ◌+ℤ◌, ◌*ℤ◌, All, unsigned_abs}
 use Rattle.std.proofs.lemmas.Int.{ints}
 use Rattle.std.proofs.lemmas.List.{length-take}
-use Rattle.lin_terms.specs.Row.{IsNarrow}
+use Rattle.lin_terms.specs.Bounds.{FitsRow}
 use Rattle.lin_terms.specs.Vectors.{dot}
 use Rattle.farkas_check.specs.Refutes.{column, constants, MayMultiply}
 use Rattle.farkas_check.proofs.Wide.{sum_back}
-use Rattle.farkas_check.proofs.Adding.{signs_more, signs_all, zeros_sum, zeros_bound, narrow_block, block_bound, block_summed, constant_summed, grown, summed_all, zeros_block}
+use Rattle.farkas_check.proofs.Adding.{signs_more, signs_all, zeros_sum, zeros_bound, block_fits, block_bound, block_summed, constant_summed, grown, summed_all, zeros_block}
 use Rattle.farkas_check.proofs.multipliers.refutes_block.Goals as goal
 
 pub loop-i-init : goal.loop-i-init
@@ -23,9 +23,9 @@ pub add_entries-requires-clause-lengths : goal.add_entries-requires-clause-lengt
 add_entries-requires-clause-lengths c =
     omega (arith, ap length c.block.ensures, length-take 32 (drop c.args.first c.index-rows-i.result.coefs), c.if-not-may_multiply.array_long)
 
-pub add_entries-requires-clause-narrow : goal.add_entries-requires-clause-narrow
-add_entries-requires-clause-narrow c =
-    subst (All IsNarrow) (sym c.block.ensures) (narrow_block c.args.rows.now c.loop-i.i c.args.first c.index-rows-i.result c.loop-i-test.true c.index-rows-i.is c.requires.narrow_rows)
+pub add_entries-requires-clause-fit : goal.add_entries-requires-clause-fit
+add_entries-requires-clause-fit c =
+    subst (All FitsRow) (sym c.block.ensures) (block_fits c.args.rows.now c.loop-i.i c.args.first c.index-rows-i.result c.loop-i-test.true c.index-rows-i.is c.requires.rows_fit)
 
 pub loop-i-preserved : goal.loop-i-preserved
 loop-i-preserved c =
@@ -39,8 +39,8 @@ loop-i-preserved c =
     let new : List ℤ = c.add_entries.new.sums in
     let coefs : List ℤ = take 32 (drop first row.coefs) in
     let added : (k : ℕ) → get_or new k (pos 0) ≡ get_or old k (pos 0) +ℤ (m *ℤ get_or coefs k (pos 0)) = rw c.block.ensures at c.add_entries.ensures in
-    let narrow_m : IsNarrow m = c.requires.narrow_multipliers i (pos 0) (omega (arith, c.requires.as_many)) in
-    let narrow : All IsNarrow coefs = narrow_block rows i first row c.loop-i-test.true c.index-rows-i.is c.requires.narrow_rows in
+    let m_fits : FitsRow m = c.requires.multipliers_fit i (pos 0) (omega (arith, c.requires.as_many)) in
+    let fit : All FitsRow coefs = block_fits rows i first row c.loop-i-test.true c.index-rows-i.is c.requires.rows_fit in
     let product : ℤ = c.product-constant.result in
     let constant : ℤ = to_z w128 c.loop-i.constant-bits in
     let room : unsigned_abs constant < 2 ^ 126 = omega (arith, c.loop-i.invariant.constant_bound, c.requires.many) in
@@ -48,7 +48,7 @@ loop-i-preserved c =
     rw (sum_back constant product room c.product-constant.ensures.small) (record {
       signs = signs_more rows ms i row c.requires.as_many c.loop-i-test.true c.index-rows-i.is may c.loop-i.invariant.signs;
       columns = λ k below. block_summed ms rows i first k row (get_or old k (pos 0)) (get_or new k (pos 0)) (dot ms (column (first + k) rows)) c.requires.as_many c.loop-i-test.true c.index-rows-i.is below (added k) (c.loop-i.invariant.columns k below);
-      columns_bound = λ k. block_bound i k m (get_or old k (pos 0)) (get_or new k (pos 0)) coefs narrow_m narrow (added k) (c.loop-i.invariant.columns_bound k);
+      columns_bound = λ k. block_bound i k m (get_or old k (pos 0)) (get_or new k (pos 0)) coefs m_fits fit (added k) (c.loop-i.invariant.columns_bound k);
       constant = constant_summed ms rows i row constant product _ c.requires.as_many c.loop-i-test.true c.index-rows-i.is c.product-constant.ensures.value c.loop-i.invariant.constant;
       constant_bound = grown i constant product c.loop-i.invariant.constant_bound c.product-constant.ensures.small;
     })
