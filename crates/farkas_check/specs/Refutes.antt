@@ -1,5 +1,5 @@
 -- Farkas' lemma as a check: rows times their multipliers that add up to a negative number which has to be at least 0.
-use Rattle.std.specs.Prelude.{◌≡◌, ℕ, ◌+◌, ◌<◌, ◌≤◌, ℤ, pos, negsuc, ◌≤ℤ◌, List, length, map, slice_index_or, All}
+use Rattle.std.specs.Prelude.{◌≡◌, ℕ, ◌+◌, ◌<◌, ◌≤◌, ℤ, pos, negsuc, ◌≤ℤ◌, Bool, List, length, map, slice_index_or, All}
 use Rattle.std.specs.Bool.{OnFalse}
 use Rattle.std.specs.List.{AllZip}
 use Rattle.farkas_check.specs.declared.sums.TheConstants.{WIDTH}
@@ -15,6 +15,10 @@ column j rows = map (λ row. slice_index_or row.coefs j (pos 0)) rows
 -- the constants, row by row
 abbrev pub constants : List Row → List ℤ
 constants rows = map (λ row. row.constant) rows
+
+-- whether they are equalities, row by row
+abbrev pub equalities : List Row → List Bool
+equalities rows = map (λ row. row.equality) rows
 
 -- A multiplier is not negative, except at an equality.
 abbrev pub MayMultiply : Row → ℤ → Type 0
