@@ -4,6 +4,7 @@ pub mod Entries
 pub mod Sizes
 pub mod FormLemmas
 pub mod Composing
+pub mod Fitting
 pub mod Signs
 pub mod Divisors
 pub mod TightLemmas

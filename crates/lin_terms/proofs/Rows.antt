@@ -9,7 +9,7 @@ use Rattle.lin_terms.specs.declared.sign.Sign.TheVariants.{Negative, NotPositive
 use Rattle.lin_terms.specs.Bounds.{fits_form, fit_form}
 use Rattle.lin_terms.specs.Vectors.{dot, scaled}
 use Rattle.lin_terms.specs.Form.{value_at, are_zeros}
-use Rattle.lin_terms.specs.Row.{Allows, Holds, Meets, Decides}
+use Rattle.lin_terms.specs.Row.{Allows, Holds, Meets, IsDecided}
 use Rattle.lin_terms.specs.Sign.{HasSign, factor_of, offset_of, says_equality, sign_row, fitting_row, tight_fitting}
 use Rattle.lin_terms.specs.Tight.{tight_of}
 use Rattle.lin_terms.proofs.Ring.{as_dif, same_dif, difs}
@@ -27,7 +27,7 @@ whole_is_fraction values row =
     (λ holds. subst P (sym (over_one row.constant)) holds, λ meets. subst P (over_one row.constant) meets)
 
 -- a row without variables
-pub decides : (row : Row) (answer : Bool) → are_zeros row.coefs ≡ true → IsTrue answer ↔ Allows row.equality row.constant → Decides row answer
+pub decides : (row : Row) (answer : Bool) → are_zeros row.coefs ≡ true → IsTrue answer ↔ Allows row.equality row.constant → IsDecided row answer
 decides row answer zeros told = record {
   no_variable = zeros;
   truth = λ values.

@@ -1,10 +1,13 @@
 -- Laws of the lists, divisors and signs that forms and rows are made of. Each is a clause of a call that does nothing.
-use Rattle.std.specs.Prelude.{◌≡◌, ℕ, suc, ◌+◌, ◌<◌, ◌↔◌, drop, Bool, true, ℤ, pos, ◌+ℤ◌, ◌*ℤ◌, ◌≤ℤ◌, unsigned_abs, List, ◌++◌, length, map, replicate, slice_index_or, All}
+use Rattle.std.specs.Prelude.{◌≡◌, ℕ, suc, ◌+◌, ◌<◌, ◌↔◌, drop, Bool, true, ℤ, pos, ◌+ℤ◌, ◌*ℤ◌, ◌≤ℤ◌, unsigned_abs, List, ◌++◌, length, map, replicate, slice_index_or, All, Some}
 use Rattle.std.specs.List.{list_all}
 use Prim.Native.Nat.{◌∣◌}
+use Rattle.lin_terms.specs.declared.form.Form.{Form}
 use Rattle.lin_terms.specs.declared.row.Row.{Row}
 use Rattle.lin_terms.specs.Vectors.{dot, plus, scaled, only_at}
 use Rattle.lin_terms.specs.Divisor.{gcd_with, gcd_of, DividesAll, floor_div}
+use Rattle.lin_terms.specs.Form.{value_at, variable_form, composed}
+use Rattle.lin_terms.specs.Makes.{IsFittingForm, fitting}
 use Rattle.lin_terms.specs.Row.{Holds, Meets, EntriesAreBelow, IsNoWider}
 
 -- ---- sums of products
@@ -108,6 +111,25 @@ ProductIsNotNegative = (a b : ℤ) → pos 0 ≤ℤ a → pos 0 ≤ℤ b → pos
 -- where a positive number times another is 0, the other is 0
 abbrev pub FactorIsZero : Type 0
 FactorIsZero = (n : ℕ) (t : ℤ) → pos (suc n) *ℤ t ≡ pos 0 → t ≡ pos 0
+
+-- ---- forms
+
+-- a form that is made where it fits has entries below 2^50 in size
+abbrev pub FittingFormsFit : Type 0
+FittingFormsFit = (wanted form : Form) → fitting wanted ≡ Some form → IsFittingForm form
+
+-- such a form is the one that is wanted
+abbrev pub FittingFormsAreWanted : Type 0
+FittingFormsAreWanted = (wanted form : Form) → fitting wanted ≡ Some form → form ≡ wanted
+
+-- the form of a variable has entries below 2^50 in size
+abbrev pub VariablesFit : Type 0
+VariablesFit = (count x : ℕ) → x < count → IsFittingForm (variable_form count x)
+
+-- the value of a form over forms, whatever the sizes are
+abbrev pub ValueOfComposed : Type 0
+ValueOfComposed = (columns : ℕ) (form : Form) (at : List Form) (values : List ℤ)
+    → value_at (composed columns form at) values ≡ value_at form (map (λ other. value_at other values) at)
 
 -- ---- rows
 

@@ -1,12 +1,17 @@
 -- What a call that makes a form answers: the form that is wanted, or that it is wide.
-use Rattle.std.specs.Prelude.{◌≡◌, Bool, ◌&&◌, if◌then◌else◌, Option, Some, None, Result, Ok, Err}
+use Rattle.std.specs.Prelude.{◌≡◌, Bool, ◌&&◌, if◌then◌else◌, Option, Some, None, Result, Ok, Err, All}
 use Rattle.lin_terms.specs.declared.form.Form.{Form}
 use Rattle.lin_terms.specs.declared.row.Row.{Row}
 use Rattle.lin_terms.specs.declared.fault.FormFault.{FormFault}
 use Rattle.lin_terms.specs.declared.fault.FormFault.TheVariants as fault
 use Rattle.lin_terms.specs.declared.fault.ProductFault.{ProductFault}
 use Rattle.lin_terms.specs.declared.fault.ProductFault.TheVariants.{NonLinear, WideForm, Memory}
-use Rattle.lin_terms.specs.Bounds.{fits_form, fit_form}
+use Rattle.lin_terms.specs.Bounds.{fits_form, fit_form, FitsForm}
+
+-- Each entry of the form is below 2^50 in size.
+pub record IsFittingForm (form : Form) : Type 0 where
+  pub coefs : All FitsForm form.coefs
+  pub constant : FitsForm form.constant
 
 -- the form, where each of its entries is below 2^50 in size
 abbrev pub fitting : Form → Option Form

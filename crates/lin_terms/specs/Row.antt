@@ -49,7 +49,7 @@ pub record IsNoWider (first second : Row) : Type 0 where
   pub constant : unsigned_abs first.constant ≤ unsigned_abs second.constant
 
 -- No variable stands in the row, and the answer says whether the row holds, whatever the values are.
-pub record Decides (row : Row) (answer : Bool) : Type 0 where
+pub record IsDecided (row : Row) (answer : Bool) : Type 0 where
   pub no_variable : are_zeros row.coefs ≡ true
   pub truth : (values : List ℤ) → IsTrue answer ↔ Holds values row
 

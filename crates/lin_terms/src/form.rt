@@ -1,10 +1,10 @@
 //! A form has a coefficient for each variable, by number, and a constant. What the calls of this crate make has
 //! entries below 2^50 in size; what they are given may have any entries.
-ghost use Rattle.std.specs.Prelude.{◌≡◌, ◌<◌, ◌≤◌, ◌^◌, ◌↔◌, ℤ, ◌+ℤ◌, ◌-ℤ◌, ◌*ℤ◌, List, length, slice_index_or, pos, unsigned_abs, replicate, IsTrue, IfOk};
-ghost use Rattle.lin_terms.specs.Bounds.{fits_form, fit_form};
+ghost use Rattle.std.specs.Prelude.{◌≡◌, ◌<◌, ◌≤◌, ◌^◌, ◌↔◌, ℤ, ◌+ℤ◌, ◌-ℤ◌, ◌*ℤ◌, List, length, slice_index_or, pos, unsigned_abs, replicate, All, IsTrue, IfOk};
+ghost use Rattle.lin_terms.specs.Bounds.{FitsForm, fits_form, fit_form};
 ghost use Rattle.lin_terms.specs.Vectors.{plus, scaled};
 ghost use Rattle.lin_terms.specs.Form.{value_at, sum_of, multiple_of, difference_of, constant_form, variable_form, are_zeros, is_constant};
-ghost use Rattle.lin_terms.specs.Makes.{fitting, Makes};
+ghost use Rattle.lin_terms.specs.Makes.{IsFittingForm, fitting, Makes};
 
 use crate::FormFault;
 use sqlite_items::Items;
@@ -208,6 +208,28 @@ pub(crate) fn are_zeros(entries: &[i64]) -> bool
     ensures { result ≡ are_zeros entries.now }
 {
     entries.iter().all(|entry| *entry == 0)
+}
+
+fn are_fitting(entries: &[i64]) -> bool
+    ensures { IsTrue result ↔ All FitsForm entries.now }
+{
+    entries
+        .iter()
+        .all(|entry| u128::from(entry.unsigned_abs()) < WIDE_FORM)
+}
+
+/// Whether all entries of the form are below 2^50 in size.
+pub fn is_fitting_form(form: &Form) -> bool
+    ensures { IsTrue result ↔ IsFittingForm form.now }
+{
+    u128::from(form.constant.unsigned_abs()) < WIDE_FORM && are_fitting(form.coefs.as_slice())
+}
+
+/// Whether all entries of the forms are below 2^50 in size.
+pub fn are_fitting_forms(forms: &[Form]) -> bool
+    ensures { IsTrue result ↔ All IsFittingForm forms.now }
+{
+    forms.iter().all(is_fitting_form)
 }
 
 impl Form {

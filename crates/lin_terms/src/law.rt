@@ -1,5 +1,5 @@
 //! Laws of the definitions alone. Each is the contract of a call that does nothing.
-ghost use Rattle.lin_terms.specs.Laws.{DotOfSum, DotOfMultiple, DotOfJoined, DotOfZeros, DotOfReplicated, DotOfOne, DotOfRest, EntryOfSum, EntryOfMultiple, EntryOfReplicated, EntryOfZeros, LengthOfSum, LengthOfMultiple, DivisorDivides, DivisorIsBelow, DivisorOfJoined, SameDivisors, QuotientIsExact, DotOfQuotients, SumIsNotNegative, ProductIsNotNegative, FactorIsZero, WholeNumbersAreFractions, NoWiderIsBelow};
+ghost use Rattle.lin_terms.specs.Laws.{DotOfSum, DotOfMultiple, DotOfJoined, DotOfZeros, DotOfReplicated, DotOfOne, DotOfRest, EntryOfSum, EntryOfMultiple, EntryOfReplicated, EntryOfZeros, LengthOfSum, LengthOfMultiple, DivisorDivides, DivisorIsBelow, DivisorOfJoined, SameDivisors, QuotientIsExact, DotOfQuotients, SumIsNotNegative, ProductIsNotNegative, FactorIsZero, FittingFormsFit, FittingFormsAreWanted, VariablesFit, ValueOfComposed, WholeNumbersAreFractions, NoWiderIsBelow};
 
 /// The sum of products, of lists that are made of others.
 pub fn law_of_dots()
@@ -37,6 +37,14 @@ pub fn law_of_signs()
     ensures sums { SumIsNotNegative }
     ensures products { ProductIsNotNegative }
     ensures factors { FactorIsZero }
+{}
+
+/// Forms that are made where they fit, and forms over forms.
+pub fn law_of_forms()
+    ensures fit { FittingFormsFit }
+    ensures wanted { FittingFormsAreWanted }
+    ensures variables { VariablesFit }
+    ensures composed { ValueOfComposed }
 {}
 
 /// Points of rows, and bounds of their entries.

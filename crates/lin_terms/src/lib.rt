@@ -22,8 +22,13 @@ mod tests;
 
 pub use divisor::gcd;
 pub use fault::{FormFault, ProductFault};
-pub use form::{Form, WIDE_FORM, add, constant_form, difference, fits_form, scale, variable_form};
-pub use law::{law_of_divisors, law_of_dots, law_of_rows, law_of_signs, law_of_vectors};
+pub use form::{
+    Form, WIDE_FORM, add, are_fitting_forms, constant_form, difference, fits_form, is_fitting_form,
+    scale, variable_form,
+};
+pub use law::{
+    law_of_divisors, law_of_dots, law_of_forms, law_of_rows, law_of_signs, law_of_vectors,
+};
 pub use over::{coef_over, compose, constant_over};
 pub use point::Point;
 pub use products::product;

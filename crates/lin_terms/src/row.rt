@@ -6,7 +6,7 @@ ghost use Rattle.std.specs.Prelude.{◌≡◌, ℕ, ◌<◌, ◌↔◌, Bool, fa
 ghost use Rattle.lin_terms.specs.Bounds.{FitsRow};
 ghost use Rattle.lin_terms.specs.Divisor.{floor_div};
 ghost use Rattle.lin_terms.specs.Form.{are_zeros};
-ghost use Rattle.lin_terms.specs.Row.{Allows, Decides, EntriesAreBelow, IsFittingRow, IsNoWider, HaveOneLength, columns_of};
+ghost use Rattle.lin_terms.specs.Row.{Allows, EntriesAreBelow, IsDecided, IsFittingRow, IsNoWider, HaveOneLength, columns_of};
 ghost use Rattle.lin_terms.specs.Tight.{never_row, divided_row, is_unsolvable, tight_of, HaveSameSolutions};
 
 use crate::divisor::{floor_div, gcd_of};
@@ -58,7 +58,7 @@ impl Row {
     ///
     /// Example: `0x + 3 >= 0` holds, `0x + 3 = 0` does not, and of `x + 3 >= 0` nothing is said.
     pub fn decided(&self) -> Option<bool>
-        ensures { MatchOption result (are_zeros self.now.coefs ≡ false) (Decides self.now) }
+        ensures { MatchOption result (are_zeros self.now.coefs ≡ false) (IsDecided self.now) }
     {
         if are_zeros(self.coefs.as_slice()) {
             Some(allows(self.equality, i128::from(self.constant)))
