@@ -1,13 +1,13 @@
 -- Sums that are made one row after the other, and the columns that blocks of sums cover.
-use Rattle.std.proofs.Common.{lit<, ◌≡◌, ◌↔◌, ℕ, zero, suc, Bool, false, map, ◌+◌, ◌-◌, ◌*◌, ◌<◌, ◌≤◌, ◌^◌, List, [], ◌∷◌, arith, refl, sym, ap, subst, length, get_or, set, take, drop, min, replicate, ◌∙◌, ⊎_elim}
+use Rattle.std.proofs.Common.{lit<, ◌≡◌, ◌↔◌, ℕ, zero, suc, Bool, false, map, ◌+◌, ◌-◌, ◌*◌, ◌<◌, ◌≤◌, ◌^◌, List, [], ◌∷◌, arith, refl, sym, subst, length, get_or, set, drop, min, replicate, ◌∙◌, ⊎_elim}
 use Rattle.std.specs.Prelude.{ℤ, pos, negsuc, ◌≤ℤ◌, ◌+ℤ◌, ◌*ℤ◌, unsigned_abs, All}
 use Rattle.std.specs.Bool.{OnFalse}
 use Rattle.std.specs.List.{AllZip, AllByRecursion}
 use Rattle.std.proofs.lemmas.Int.{ints}
 use Rattle.std.proofs.lemmas.Bool.{cases_lt}
 use Rattle.std.proofs.Math.ListN.{drop_of_length-le}
-use Rattle.std.proofs.lemmas.List.{length-map, drop_more, get_or_past, get_or-map, get_or-take, get_or-drop, get_or-set_same, get_or-set_other, take_rest, drop_min, take_min}
-use Rattle.std.proofs.lemmas.List.Elements.{All-get_or, All-from_get_or, All-take, All-drop, recursion_from_All}
+use Rattle.std.proofs.lemmas.List.{drop_more, get_or_past, get_or-map, get_or-set_same, get_or-set_other}
+use Rattle.std.proofs.lemmas.List.Elements.{All-get_or, All-from_get_or, recursion_from_All}
 use Rattle.lin_terms.specs.declared.row.Row.{Row}
 use Rattle.lin_terms.specs.Vectors.{dot}
 use Rattle.lin_terms.specs.Bounds.{FitsRow}
@@ -115,7 +115,8 @@ entry_fits entries k fit =
 -- an entry of rows that fit does
 pub column_fits : (rows : List Row) (i j : ℕ) → i < length rows → All IsFittingRow rows → FitsRow (get_or (column j rows) i (pos 0))
 column_fits rows i j below fit =
-    subst FitsRow (sym (told_at (λ row. get_or row.coefs j (pos 0)) rows i (pos 0) below)) (entry_fits (row_at rows i).coefs j (row_fits rows i below fit).coefs)
+    subst FitsRow (sym (told_at (λ row. get_or row.coefs j (pos 0)) rows i (pos 0) below))
+    (entry_fits (row_at rows i).coefs j (row_fits rows i below fit).coefs)
 
 pub constant_fits : (rows : List Row) (i : ℕ) → i < length rows → All IsFittingRow rows → FitsRow (get_or (constants rows) i (pos 0))
 constant_fits rows i below fit =
@@ -137,7 +138,8 @@ may_at rows i m equality below is =
 pub block_bound : (i j : ℕ) (m old new : ℤ) (rows : List Row) → FitsRow m → i < length rows → All IsFittingRow rows
     → new ≡ old +ℤ (m *ℤ get_or (column j rows) i (pos 0)) → unsigned_abs old ≤ i * 2 ^ 112 → unsigned_abs new ≤ (i + 1) * 2 ^ 112
 block_bound i j m old new rows m_fits below fit is bound =
-    rw is (grown i old (m *ℤ get_or (column j rows) i (pos 0)) bound (unsigned_abs-product m (get_or (column j rows) i (pos 0)) m_fits (column_fits rows i j below fit)))
+    rw is (grown i old (m *ℤ get_or (column j rows) i (pos 0)) bound
+    (unsigned_abs-product m (get_or (column j rows) i (pos 0)) m_fits (column_fits rows i j below fit)))
 
 pub block_summed : (ms : List ℤ) (rows : List Row) (i j : ℕ) (old new all : ℤ) → length ms ≡ length rows → i < length rows
     → new ≡ old +ℤ (get_or ms i (pos 0) *ℤ get_or (column j rows) i (pos 0))

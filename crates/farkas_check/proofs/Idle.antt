@@ -1,5 +1,5 @@
 -- A row that is taken 0 times changes nothing.
-use Rattle.std.proofs.Common.{◌≡◌, ℕ, zero, suc, ◌≤◌, ◌+◌, Bool, true, false, List, [], ◌∷◌, ◌++◌, map, arith, refl, sym, ◌∙◌, ap, subst, take, drop, min, length, get_or, length-append}
+use Rattle.std.proofs.Common.{◌≡◌, ℕ, suc, Bool, true, false, List, [], ◌∷◌, ◌++◌, map, arith, refl, sym, ◌∙◌, ap, subst, take, drop, length, get_or, length-append}
 use Rattle.std.specs.Prelude.{ℤ, pos, negsuc, ◌+ℤ◌, ◌*ℤ◌, ◌≤ℤ◌}
 use Rattle.std.specs.Bool.{OnFalse}
 use Rattle.std.specs.List.{AllZip}
@@ -8,7 +8,7 @@ use Rattle.lin_terms.specs.declared.row.Row.{Row}
 use Rattle.lin_terms.specs.Vectors.{dot}
 use Rattle.std.proofs.lemmas.List.{length-take}
 use Rattle.std.proofs.Math.ListN.{take-append-drop}
-use Rattle.farkas_check.specs.Refutes.{column, constants, MayMultiply, Refutes, IsRefutable}
+use Rattle.farkas_check.specs.Refutes.{MayMultiply, Refutes, IsRefutable}
 use Rattle.farkas_check.specs.Laws.{AreAlike}
 
 zero_may : (equality : Bool) → OnFalse equality (pos 0 ≤ℤ pos 0)
@@ -96,5 +96,6 @@ pub alike_refuted : (rows others : List Row) (ms : List ℤ) → AllZip AreAlike
 alike_refuted rows others ms alike refuted = record {
   signs = alike_signs rows others ms alike refuted.signs;
   no_variable = λ j. ap (dot ms) (sym (alike_map (λ row. get_or row.coefs j (pos 0)) (λ r o same. same.entries j) rows others alike)) ∙ refuted.no_variable j;
-  negative_constant = subst (λ z. z ≤ℤ negsuc 0) (ap (dot ms) (alike_map (λ row. row.constant) (λ r o same. same.constant) rows others alike)) refuted.negative_constant;
+  negative_constant = subst (λ z. z ≤ℤ negsuc 0)
+      (ap (dot ms) (alike_map (λ row. row.constant) (λ r o same. same.constant) rows others alike)) refuted.negative_constant;
 }

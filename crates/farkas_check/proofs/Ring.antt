@@ -2,7 +2,7 @@
 --     rw (as_dif a, as_dif b, as_dif c) (simp difs (same_dif _ _ _ _ (omega arith)))
 -- `as_dif` writes each variable as a difference of two naturals, `difs` computes with differences, and `omega` multiplies out.
 use Rattle.std.proofs.Common.{◌≡◌, ℕ, ◌+◌, ◌*◌, arith, ap}
-use Rattle.std.specs.Prelude.{ℤ, pos, neg_ℤ, ◌+ℤ◌, ◌*ℤ◌, ◌-ℤ◌}
+use Rattle.std.specs.Prelude.{ℤ, pos, neg_ℤ, ◌+ℤ◌, ◌*ℤ◌}
 use borrow.Author.Differences.{up, down, same_in, sum_is_lem, product_is, neg_is}
 use Rattle.std.proofs.lemmas.Int.{ints}
 

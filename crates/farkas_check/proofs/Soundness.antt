@@ -48,7 +48,9 @@ total-is (m ∷ ms) [] numbers d = omega (arith, ints)
 total-is (m ∷ ms) (row ∷ rows) numbers d =
     ap (λ t. (m *ℤ value numbers d row) +ℤ t) (total-is ms rows numbers d)
     ∙ total_step m (dot row.coefs numbers) row.constant d (dot (combination ms rows) numbers) (dot ms (constants rows))
-    ∙ ap (λ t. t +ℤ (((m *ℤ row.constant) +ℤ dot ms (constants rows)) *ℤ d)) (ap (λ t. t +ℤ dot (combination ms rows) numbers) (sym (dot-scaled m row.coefs numbers)) ∙ sym (dot-plus (scaled m row.coefs) (combination ms rows) numbers))
+    ∙ ap (λ t. t +ℤ (((m *ℤ row.constant) +ℤ dot ms (constants rows)) *ℤ d))
+    (ap (λ t. t +ℤ dot (combination ms rows) numbers) (sym (dot-scaled m row.coefs numbers))
+    ∙ sym (dot-plus (scaled m row.coefs) (combination ms rows) numbers))
 
 -- a row that holds, times a multiplier that it may have
 nonneg_product : (equality : Bool) (m v : ℤ) → OnFalse equality (pos 0 ≤ℤ m) → Allows equality v → pos 0 ≤ℤ (m *ℤ v)
@@ -79,4 +81,5 @@ no_point rows ms refuted numbers d positive met =
 
 pub no_integer_point : (rows : List Row) (ms : List ℤ) → Refutes rows ms → HasNoIntegerPoint rows
 no_integer_point rows ms refuted values holds =
-    no_point rows ms refuted values (pos 1) (omega (arith, ints)) (All-weaker (Holds values) (Meets values (pos 1)) (λ row. (whole_is_fraction values row).0) rows holds)
+    no_point rows ms refuted values (pos 1) (omega (arith, ints))
+    (All-weaker (Holds values) (Meets values (pos 1)) (λ row. (whole_is_fraction values row).0) rows holds)

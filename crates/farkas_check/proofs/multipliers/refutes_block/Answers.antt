@@ -1,6 +1,6 @@
 use Rattle.std.proofs.Common.{◌≡◌, ℕ, Bool, true, false, ◌+◌, ◌<◌, ◌≤◌, ◌^◌, arith, rules, sym, ap, subst, ◌∙◌, to_z, get_or, pos, length, List, FitsSigned, w64, to_z-of_z}
 use Rattle.std.specs.Int.{w128}
-use Rattle.std.specs.Prelude.{ℤ, negsuc, ◌≤ℤ◌, ◌+ℤ◌, ◌*ℤ◌, All, unsigned_abs}
+use Rattle.std.specs.Prelude.{ℤ, negsuc, ◌≤ℤ◌, ◌*ℤ◌, unsigned_abs}
 use Rattle.std.proofs.lemmas.Int.{ints}
 use Rattle.std.proofs.lemmas.List.Elements.{All-from_get_or}
 use Rattle.lin_terms.specs.declared.row.Row.{Row}
@@ -30,13 +30,18 @@ returns-then-not-may_multiply g c =
     let rows : List Row = g.R.Rows.list c.args.rows.now in
     let below : i < length rows = omega (arith, c.requires.as_many, c.loop-i-test.true) in
     let may = may_at rows i (get_or ms i (pos 0)) c.is_equality.result below c.is_equality.ensures in
-    let may_not = λ (h : MayMultiply (row_at rows i) (get_or ms i (pos 0))). let told : c.may_multiply.result ≡ true = c.may_multiply.ensures.1 (may.1 h) in not_both c.may_multiply.result told c.if-not-may_multiply.true in
-    (λ never. absurd cc, λ refuted. absurd (no_sign rows ms i (row_at rows i) c.requires.as_many below (row_at-is rows i below) may_not c.loop-i.invariant.signs refuted.signs))
+    let may_not = λ (h : MayMultiply (row_at rows i) (get_or ms i (pos 0))).
+    let told : c.may_multiply.result ≡ true = c.may_multiply.ensures.1 (may.1 h) in
+    not_both c.may_multiply.result told c.if-not-may_multiply.true in (
+      λ never. absurd cc,
+      λ refuted. absurd (no_sign rows ms i (row_at rows i) c.requires.as_many below (row_at-is rows i below) may_not c.loop-i.invariant.signs refuted.signs),
+    )
 
 pub add_row-requires-clause-room : goal.add_row-requires-clause-room
 add_row-requires-clause-room g c =
     All-from_get_or (λ (sum : ℤ). unsigned_abs sum < 2 ^ 126) c.loop-i.columns (pos 0)
-    (λ k below. let bound = c.loop-i.invariant.columns_bound k (omega (arith, c.if-not-may_multiply.array_long)) in omega (arith, bound, c.requires.many, c.requires.as_many, c.loop-i-test.true))
+    (λ k below. let bound = c.loop-i.invariant.columns_bound k (omega (arith, c.if-not-may_multiply.array_long)) in
+    omega (arith, bound, c.requires.many, c.requires.as_many, c.loop-i-test.true))
 
 pub product-constant-requires-clause-fits : goal.product-constant-requires-clause-fits
 product-constant-requires-clause-fits g c =
@@ -60,11 +65,14 @@ loop-i-preserved g c =
     let room : unsigned_abs constant < 2 ^ 126 = omega (arith, c.loop-i.invariant.constant_bound, c.requires.many) in
     let fits : FitsSigned w64 c.constant.result = search rules in
     let made = (simp to_z-of_z at c.product-constant.ensures.value) ∙ ap (λ (z : ℤ). m *ℤ z) c.constant.ensures in
-    let may : MayMultiply (row_at rows i) m = (may_at rows i m c.is_equality.result below c.is_equality.ensures).0 (c.may_multiply.ensures.0 c.if-not-may_multiply.false) in
+    let may : MayMultiply (row_at rows i) m =
+    (may_at rows i m c.is_equality.result below c.is_equality.ensures).0 (c.may_multiply.ensures.0 c.if-not-may_multiply.false) in
     rw (sum_back constant product room c.product-constant.ensures.small) (record {
       signs = signs_more rows ms i (row_at rows i) c.requires.as_many below (row_at-is rows i below) may c.loop-i.invariant.signs;
-      columns = λ k in_block. block_summed ms rows i (first + k) (get_or old k (pos 0)) (get_or new k (pos 0)) (dot ms (column (first + k) rows)) c.requires.as_many below (c.add_row.ensures k in_block) (c.loop-i.invariant.columns k in_block);
-      columns_bound = λ k in_block. block_bound i (first + k) m (get_or old k (pos 0)) (get_or new k (pos 0)) rows m_fits below c.requires.rows_fit (c.add_row.ensures k in_block) (c.loop-i.invariant.columns_bound k in_block);
+      columns = λ k in_block. block_summed ms rows i (first + k) (get_or old k (pos 0)) (get_or new k (pos 0)) (dot ms (column (first + k) rows))
+          c.requires.as_many below (c.add_row.ensures k in_block) (c.loop-i.invariant.columns k in_block);
+      columns_bound = λ k in_block. block_bound i (first + k) m (get_or old k (pos 0)) (get_or new k (pos 0)) rows m_fits below c.requires.rows_fit
+          (c.add_row.ensures k in_block) (c.loop-i.invariant.columns_bound k in_block);
       constant = summed ms (constants rows) i constant product _ (omega arith) made c.loop-i.invariant.constant;
       constant_bound = grown i constant product c.loop-i.invariant.constant_bound c.product-constant.ensures.small;
     })

@@ -17,7 +17,8 @@ returns-then-not-refutes_block-clause-exact g c = (
 
 pub loop-walk-preserved : goal.loop-walk-preserved
 loop-walk-preserved g c =
-    let block : RefutesBlock (c.loop-walk.walk * 32) (g.R.Rows.list c.args.rows.now) c.args.multipliers.now = c.refutes_block.ensures.0 c.if-not-refutes_block.false in
+    let block : RefutesBlock (c.loop-walk.walk * 32) (g.R.Rows.list c.args.rows.now) c.args.multipliers.now =
+    c.refutes_block.ensures.0 c.if-not-refutes_block.false in
     record {
       signs = λ some. block.signs;
       negative_constant = λ some. block.negative_constant;

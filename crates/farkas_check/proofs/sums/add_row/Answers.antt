@@ -36,6 +36,7 @@ loop-k-preserved g c =
 pub returns : goal.returns
 returns g c =
     let rows : List Row = g.R.Rows.list c.args.rows.now in
-    let all : c.loop-k.k ≡ min 32 (columns_of rows - c.args.first) = omega (arith, c.min-k-end.ensures, c.saturating_sub.ensures, c.columns.ensures, c.loop-k-test.false) in
+    let all : c.loop-k.k ≡ min 32 (columns_of rows - c.args.first) =
+    omega (arith, c.min-k-end.ensures, c.saturating_sub.ensures, c.columns.ensures, c.loop-k-test.false) in
     row_added rows c.args.i c.args.first c.loop-k.k c.args.multiplier.now c.loop-k.sums c.args.sums.now c.requires.inside c.requires.one_length all
     c.loop-k.invariant.added c.loop-k.invariant.left
