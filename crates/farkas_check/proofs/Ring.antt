@@ -35,8 +35,4 @@ pub dif_mul : (p n q m : ℕ) → dif p n *ℤ dif q m ≡ dif (p * q + n * m) (
 dif_mul p n q m =
     same_in _ _ (omega (arith, product_is (dif p n) (dif q m), dif_is (p * q + n * m) (p * m + n * q), products _ _ p n _ _ q m (dif_is p n) (dif_is q m)))
 
--- a literal, for `rw`: dif_pos 3
-pub dif_pos : (p : ℕ) → pos p ≡ dif p 0
-dif_pos p = same_in _ _ (omega (arith, dif_is p 0))
-
 pub ruleset difs = (dif_add, dif_neg, dif_mul)

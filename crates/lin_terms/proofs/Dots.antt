@@ -1,5 +1,5 @@
 -- Dot products.
-use Rattle.std.proofs.Common.{◌≡◌, ℕ, zero, suc, Bool, true, List, [], ◌∷◌, arith, refl, ◌∙◌, ap, sym, ◌<◌, ◌≤◌, ◌+◌, ◌++◌, drop, ⊎_elim, length, get_or, set, replicate}
+use Rattle.std.proofs.Common.{◌≡◌, ℕ, zero, suc, Bool, true, List, [], ◌∷◌, arith, refl, ◌∙◌, ap, ◌<◌, ◌≤◌, ◌+◌, ◌++◌, drop, ⊎_elim, length, get_or, replicate}
 use Rattle.std.specs.Prelude.{ℤ, pos, ◌+ℤ◌, ◌*ℤ◌}
 use Rattle.std.specs.List.{list_all}
 use Rattle.std.proofs.lemmas.Int.{ints}

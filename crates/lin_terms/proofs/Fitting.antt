@@ -1,6 +1,6 @@
 -- Forms that are made where they fit.
-use Rattle.std.proofs.Common.{◌≡◌, ℕ, zero, suc, ◌<◌, ◌^◌, lit<, Bool, true, false, ◌&&◌, cond, Some, None, List, [], ◌∷◌, arith, refl, sym, subst, set, get_or, replicate, length}
-use Rattle.std.specs.Prelude.{ℤ, pos, All, nat_lt, unsigned_abs}
+use Rattle.std.proofs.Common.{◌≡◌, ℕ, zero, suc, ◌<◌, ◌^◌, lit<, Bool, true, false, ◌&&◌, cond, Some, None, List, [], ◌∷◌, arith, refl, sym, subst, replicate}
+use Rattle.std.specs.Prelude.{ℤ, pos, nat_lt, unsigned_abs}
 use Rattle.std.specs.List.{AllByRecursion}
 use Rattle.std.proofs.lemmas.Bool.{and_parts}
 use Rattle.std.proofs.lemmas.Bool.Decides.{nat_tests}

@@ -1,5 +1,5 @@
 -- The values of forms.
-use Rattle.std.proofs.Common.{◌≡◌, ◌↔◌, ℕ, zero, suc, ◌<◌, Bool, true, false, cond, ◌&&◌, eqb, Some, None, IsTrue, sym, List, [], ◌∷◌, get_or, set, replicate, refl, ap, ◌∙◌, arith}
+use Rattle.std.proofs.Common.{◌≡◌, ◌↔◌, ℕ, zero, suc, ◌<◌, Bool, true, false, cond, ◌&&◌, eqb, Some, None, IsTrue, sym, List, [], ◌∷◌, get_or, replicate, refl, ap, ◌∙◌, arith}
 use Rattle.std.specs.Prelude.{ℤ, pos, negsuc, ◌+ℤ◌, ◌*ℤ◌, unsigned_abs, Decides}
 use Rattle.lin_terms.specs.Bounds.{fits_form, fit_form}
 use Rattle.lin_terms.specs.Makes.{fitting}

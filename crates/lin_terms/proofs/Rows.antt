@@ -1,13 +1,13 @@
 -- Rows: what they say at points, of signs, and where no variable stands in them.
-use Rattle.std.proofs.Common.{◌≡◌, ◌↔◌, ℕ, zero, suc, Bool, true, false, List, [], ◌∷◌, IsTrue, arith, refl, sym, ◌∙◌, ap, subst, cond, eqb, ◌&&◌, Some, None}
-use Rattle.std.specs.Prelude.{ℤ, pos, negsuc, unsigned_abs, ◌+ℤ◌, ◌*ℤ◌, ◌≤ℤ◌, ◌<ℤ◌}
+use Rattle.std.proofs.Common.{◌≡◌, ◌↔◌, Bool, true, false, List, IsTrue, arith, refl, sym, ◌∙◌, ap, subst, cond, eqb, ◌&&◌, Some, None}
+use Rattle.std.specs.Prelude.{ℤ, pos, unsigned_abs, ◌+ℤ◌, ◌*ℤ◌}
 use Rattle.std.proofs.lemmas.Int.{ints}
 use Rattle.lin_terms.specs.declared.form.Form.{Form}
 use Rattle.lin_terms.specs.declared.row.Row.{Row}
 use Rattle.lin_terms.specs.declared.sign.Sign.{Sign}
 use Rattle.lin_terms.specs.declared.sign.Sign.TheVariants.{Negative, NotPositive, Zero, NotNegative, Positive}
 use Rattle.lin_terms.specs.Bounds.{fits_form, fit_form}
-use Rattle.lin_terms.specs.Vectors.{dot, scaled}
+use Rattle.lin_terms.specs.Vectors.{dot}
 use Rattle.lin_terms.specs.Form.{value_at, are_zeros}
 use Rattle.lin_terms.specs.Row.{Allows, Holds, Meets, IsDecided}
 use Rattle.lin_terms.specs.Sign.{HasSign, factor_of, offset_of, says_equality, sign_row, fitting_row, tight_fitting}

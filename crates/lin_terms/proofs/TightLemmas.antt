@@ -1,5 +1,5 @@
 -- A tight row has the solutions in whole numbers of the row that it is made of.
-use Rattle.std.proofs.Common.{◌≡◌, ◌↔◌, ℕ, zero, suc, ◌<◌, ◌%◌, Bool, true, false, cond, not, eqb, List, map, arith, refl, sym, ◌∙◌, ap, subst, length, get_or, replicate, ◌≤◌, ◌/◌, [], ◌∷◌}
+use Rattle.std.proofs.Common.{◌≡◌, ◌↔◌, ℕ, zero, suc, ◌<◌, ◌%◌, Bool, true, false, cond, not, eqb, List, map, arith, refl, sym, ◌∙◌, ap, subst, length, get_or, ◌≤◌, [], ◌∷◌}
 use Prim.Native.Nat.{◌∣◌}
 use Rattle.std.specs.Prelude.{ℤ, pos, negsuc, ◌+ℤ◌, ◌*ℤ◌, ◌≤ℤ◌, ◌&&◌, unsigned_abs}
 use Rattle.std.proofs.Math.Nat.{dvd-mul_right, div-le_self, zero-mod}
@@ -147,7 +147,8 @@ below_of : (first second : Row) (bound : ℕ) → 0 < bound → IsNoWider first 
     → length first.coefs ≡ length second.coefs → EntriesAreBelow bound second → (k : ℕ) → k < length first.coefs
     → unsigned_abs (get_or first.coefs k (pos 0)) < bound
 below_of first second bound positive no_wider long below k inside =
-    let there : unsigned_abs (get_or second.coefs k (pos 0)) < bound = All-get_or (λ (x : ℤ). unsigned_abs x < bound) second.coefs k (pos 0) (omega arith) below.coefs in
+    let there : unsigned_abs (get_or second.coefs k (pos 0)) < bound =
+    All-get_or (λ (x : ℤ). unsigned_abs x < bound) second.coefs k (pos 0) (omega arith) below.coefs in
     let less = no_wider.coefs k in omega arith
 
 -- a row that is no wider than another is below each bound that the other is below

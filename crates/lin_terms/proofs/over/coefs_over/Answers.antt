@@ -1,8 +1,7 @@
-use Rattle.std.proofs.Common.{◌≡◌, rules, arith, ◌∙◌, sym, ap, subst, true, FitsSigned, to_z-of_z, List}
+use Rattle.std.proofs.Common.{◌≡◌, rules, arith, ◌∙◌, sym, subst, true, FitsSigned, to_z-of_z, List}
 use Rattle.std.specs.Int.{w128}
 use Rattle.std.specs.Prelude.{ℤ}
-use Rattle.lin_terms.specs.Bounds.{fits_form, fit_form}
-use Rattle.lin_terms.specs.Form.{composed_coefs}
+use Rattle.lin_terms.specs.Bounds.{fit_form}
 use Rattle.lin_terms.proofs.Composing.{take_one, fit_one, wide_one, take_all}
 use Rattle.lin_terms.proofs.over.coefs_over.Goals as goal
 

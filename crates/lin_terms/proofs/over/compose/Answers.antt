@@ -1,4 +1,4 @@
-use Rattle.std.proofs.Common.{◌≡◌, rules, ap, length, ◌∙◌, FitsSigned, w64, to_z-of_z}
+use Rattle.std.proofs.Common.{rules, ap, length, ◌∙◌, FitsSigned, w64, to_z-of_z}
 use Rattle.std.specs.Int.{w128}
 use Rattle.lin_terms.proofs.Composing.{length-composed, value_at-made_composed}
 use Rattle.lin_terms.proofs.over.compose.Goals as goal

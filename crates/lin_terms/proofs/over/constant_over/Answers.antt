@@ -1,4 +1,4 @@
-use Rattle.std.proofs.Common.{◌≡◌, ℕ, ◌<◌, ◌^◌, arith, to_z, get_or, pos, ap, sym, ◌∙◌}
+use Rattle.std.proofs.Common.{ℕ, ◌<◌, ◌^◌, arith, to_z, get_or, pos, ap, sym, ◌∙◌}
 use Rattle.std.specs.Int.{w128}
 use Rattle.std.specs.Prelude.{ℤ, ◌*ℤ◌, unsigned_abs}
 use Rattle.lin_terms.specs.declared.form.Form.{Form}

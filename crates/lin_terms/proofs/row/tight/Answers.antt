@@ -29,4 +29,5 @@ returns-clause-bounds c =
     let row : Row = c.args.row.now in
     IfOk-weaker c.made_tight.result (λ (made : Row). made ≡ tight_of row)
     (λ (made : Row). (bound : ℕ) → 0 < bound → EntriesAreBelow bound row → EntriesAreBelow bound made)
-    (λ made e bound positive below. subst (EntriesAreBelow bound) (sym e) (no_wider_below (tight_of row) row bound positive (tight_no_wider row) (tight_columns row) below)) c.made_tight.ensures
+    (λ made e bound positive below. subst (EntriesAreBelow bound) (sym e)
+    (no_wider_below (tight_of row) row bound positive (tight_no_wider row) (tight_columns row) below)) c.made_tight.ensures

@@ -1,4 +1,4 @@
-use Rattle.std.proofs.Common.{◌∙◌, sym, ap}
+use Rattle.std.proofs.Common.{◌∙◌, ap}
 use Rattle.lin_terms.specs.declared.row.Row.{Row}
 use Rattle.lin_terms.specs.Sign.{sign_row}
 use Rattle.lin_terms.specs.Tight.{tight_of}
