@@ -9,8 +9,8 @@ use Rattle.farkas_check.proofs.Soundness.{no_point}
 use Rattle.elimination.specs.declared.answer.Answer.{Answer}
 use Rattle.elimination.specs.declared.answer.Answer.TheVariants.{Refuted, NotRefutable}
 use Rattle.elimination.specs.declared.answer.Limit.TheVariants.{ManyRows, Memory}
-use Rattle.elimination.specs.declared.answer.Stop.{Stop}
-use Rattle.elimination.specs.declared.answer.Stop.TheVariants.{Contradiction, AtLimit}
+use Rattle.elimination.specs.declared.answer.EarlyEnd.{EarlyEnd}
+use Rattle.elimination.specs.declared.answer.EarlyEnd.TheVariants.{Contradiction, AtLimit}
 use Rattle.elimination.specs.Combination.{Combination}
 use Rattle.elimination.specs.Joining.{list_of}
 use Rattle.elimination.specs.Eliminated.{initial, eliminate, answer_of, eliminated}
@@ -22,12 +22,12 @@ use Rattle.elimination.proofs.Lists.{Anything}
 use Rattle.elimination.proofs.Narrowness.{AreNarrow, all_narrow}
 
 -- what stands where the elimination ends
-abbrev ended : List Row → ℕ → Result (List Combination) Stop
+abbrev ended : List Row → ℕ → Result (List Combination) EarlyEnd
 ended rows cap = eliminate cap (columns_of rows) 0 (list_of cap (initial 0 rows))
 
 -- ---- multipliers
 
-answered_holds : (P : Combination → Type 0) (R : List ℤ → Type 0) (last : Result (List Combination) Stop) (multipliers : List ℤ) → Holding P R last
+answered_holds : (P : Combination → Type 0) (R : List ℤ → Type 0) (last : Result (List Combination) EarlyEnd) (multipliers : List ℤ) → Holding P R last
     → answer_of last ≡ Ok (Refuted multipliers) → R multipliers
 answered_holds P R (Ok rows) multipliers holds e = cc
 answered_holds P R (Err (Contradiction found)) multipliers holds e = let same : found ≡ multipliers = cc in subst R same holds
@@ -59,7 +59,7 @@ exactly_refutable rows cap NotRefutable one_length e = (λ refuted. absurd refut
 
 -- ---- limits
 
-answered_limit : (last : Result (List Combination) Stop) → Holding Anything AreNarrow last → answer_of last ≡ Err Memory → ⊥
+answered_limit : (last : Result (List Combination) EarlyEnd) → Holding Anything AreNarrow last → answer_of last ≡ Err Memory → ⊥
 answered_limit (Ok rows) holds e = cc
 answered_limit (Err (Contradiction multipliers)) holds e = cc
 answered_limit (Err (AtLimit limit)) holds e = let same : limit ≡ Memory = cc in subst (λ l. Holding Anything AreNarrow (Err (AtLimit l))) same holds

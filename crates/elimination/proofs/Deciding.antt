@@ -10,8 +10,8 @@ use Rattle.lin_terms.specs.Row.{Meets, HaveOneLength, columns_of}
 use Rattle.lin_terms.proofs.Ring.{as_dif, same_dif, difs, dif_pos}
 use Rattle.elimination.specs.declared.answer.Answer.TheVariants.{NotRefutable}
 use Rattle.elimination.specs.declared.answer.Limit.TheVariants.{ManyRows}
-use Rattle.elimination.specs.declared.answer.Stop.{Stop}
-use Rattle.elimination.specs.declared.answer.Stop.TheVariants.{Contradiction, AtLimit}
+use Rattle.elimination.specs.declared.answer.EarlyEnd.{EarlyEnd}
+use Rattle.elimination.specs.declared.answer.EarlyEnd.TheVariants.{Contradiction, AtLimit}
 use Rattle.elimination.specs.Combination.{Combination, entry, sign, size, combined}
 use Rattle.elimination.specs.Column.{projected}
 use Rattle.elimination.specs.Joining.{primitive, has_no_variable, list_of}
@@ -85,7 +85,7 @@ column_gone cap n j rows all =
     new_list_holds (HasGone n (suc j)) (IsLeft n (suc j)) Anything (gone_joins n (suc j)) cap (projected j rows)
     (projected_has j (IsLeft n j) (HasGone n (suc j)) (gone_steps n j) rows all)
 
-eliminate_gone : (cap n left j : ℕ) (rows : Result (List Combination) Stop) (out : List Combination) → Holding (IsLeft n j) Anything rows
+eliminate_gone : (cap n left j : ℕ) (rows : Result (List Combination) EarlyEnd) (out : List Combination) → Holding (IsLeft n j) Anything rows
     → eliminate cap left j rows ≡ Ok out → AllByRecursion (IsLeft n (j + left)) out
 eliminate_gone cap n zero j (Err stop) out holds e = cc
 eliminate_gone cap n zero j (Ok rows) out holds e =
@@ -132,7 +132,7 @@ meets_initial : (numbers : List ℤ) (d : ℤ) (before : ℕ) (rows : List Row) 
 meets_initial numbers d before [] met = tt
 meets_initial numbers d before (row ∷ rows) met = (met.0, meets_initial numbers d (suc before) rows met.1)
 
-first_point : (cap n : ℕ) (rows : List Row) (start : Result (List Combination) Stop) (out : List Combination) → list_of cap (initial 0 rows) ≡ start
+first_point : (cap n : ℕ) (rows : List Row) (start : Result (List Combination) EarlyEnd) (out : List Combination) → list_of cap (initial 0 rows) ≡ start
     → Holding (IsLeft n 0) Anything start → eliminate cap n 0 start ≡ Ok out → HasPoint rows
 first_point cap n rows (Err stop) out is holds ends = absurd (eliminate_err cap n 0 stop out ends)
 first_point cap n rows (Ok first) out is holds ends =
@@ -148,7 +148,7 @@ first_point cap n rows (Ok first) out is holds ends =
           (list_of_back point.numbers point.denominator (omega (arith, ints, point.positive)) cap (initial 0 rows) first is point.meets));
     }
 
-answered_point : (cap n : ℕ) (rows : List Row) (ended : Result (List Combination) Stop) → eliminate cap n 0 (list_of cap (initial 0 rows)) ≡ ended
+answered_point : (cap n : ℕ) (rows : List Row) (ended : Result (List Combination) EarlyEnd) → eliminate cap n 0 (list_of cap (initial 0 rows)) ≡ ended
     → answer_of ended ≡ Ok NotRefutable → AllByRecursion (λ row. length row.coefs ≡ n) rows → HasPoint rows
 answered_point cap n rows (Err (Contradiction multipliers)) is e lengths = cc
 answered_point cap n rows (Err (AtLimit limit)) is e lengths = cc

@@ -5,8 +5,8 @@ use Rattle.std.specs.List.{AllByRecursion}
 use Rattle.std.proofs.lemmas.Bool.{cond_both}
 use Rattle.elimination.specs.declared.answer.Limit.{Limit}
 use Rattle.elimination.specs.declared.answer.Limit.TheVariants.{WideRow, ManyRows, Memory}
-use Rattle.elimination.specs.declared.answer.Stop.{Stop}
-use Rattle.elimination.specs.declared.answer.Stop.TheVariants.{Contradiction, AtLimit}
+use Rattle.elimination.specs.declared.answer.EarlyEnd.{EarlyEnd}
+use Rattle.elimination.specs.declared.answer.EarlyEnd.TheVariants.{Contradiction, AtLimit}
 use Rattle.elimination.specs.Combination.{Combination, entry, is_zero, is_positive, is_negative, sign, size, combined}
 use Rattle.elimination.specs.Column.{is_pivot, behind, pivot_of, reduced, paired, without, lower_bounds, upper_bounds, pairs, projected_by, projected}
 use Rattle.elimination.specs.Joining.{numbers_of, primitive, is_wide, has_no_variable, allows, turned, judged, is_parallel, tighter, placed, added, counted, admitted, joined, joined_each, list_of}
@@ -36,7 +36,7 @@ module _ (P : Combination → Type 0) (R : List ℤ → Type 0) where
       (λ equality. all_append P rows (row ∷ []) all (has, tt)) (λ inequality. all_placed rows row all has)
 
   -- the rows of a list have P, and multipliers that stop it have R
-  abbrev pub Holding : Result (List Combination) Stop → Type 0
+  abbrev pub Holding : Result (List Combination) EarlyEnd → Type 0
   Holding (Ok rows) = AllByRecursion P rows
   Holding (Err (Contradiction multipliers)) = R multipliers
   Holding (Err (AtLimit limit)) = IsOfMethod limit
@@ -58,13 +58,13 @@ module _ (P : Combination → Type 0) (R : List ℤ → Type 0) where
 
   admitted_holds : (cap : ℕ) (rows : List Combination) (row : Combination) → AllByRecursion P rows → Joins row → Holding (admitted cap rows row)
   admitted_holds cap rows row all joins =
-      let by_variables : Result (List Combination) Stop = cond (has_no_variable row.row.coefs) (judged rows row) (counted cap (added rows row)) in
+      let by_variables : Result (List Combination) EarlyEnd = cond (has_no_variable row.row.coefs) (judged rows row) (counted cap (added rows row)) in
       cond_both (is_wide (numbers_of row)) (Err (AtLimit WideRow)) by_variables Holding (λ wide. tt)
       (λ narrow. cond_both (has_no_variable row.row.coefs) (judged rows row) (counted cap (added rows row)) Holding
       (λ no_variable. judged_holds rows row narrow no_variable all joins)
       (λ variable. counted_holds cap (added rows row) (all_added rows row all (joins.kept narrow variable))))
 
-  joined_each_holds : (cap : ℕ) (before : Result (List Combination) Stop) (later : List Combination) → Holding before
+  joined_each_holds : (cap : ℕ) (before : Result (List Combination) EarlyEnd) (later : List Combination) → Holding before
       → AllByRecursion (λ row. Joins (primitive row)) later → Holding (joined_each cap before later)
   joined_each_holds cap (Err stop) later holds joins = holds
   joined_each_holds cap (Ok rows) [] holds joins = holds
@@ -150,7 +150,7 @@ module _ (j : ℕ) (A B : Combination → Type 0) (steps : Steps j A B) where
 
 -- what each step keeps stands to the end
 module _ (P : Combination → Type 0) (R : List ℤ → Type 0) (joins : (row : Combination) → P row → Joins P R (primitive row)) (steps : (j : ℕ) → Steps j P P) where
-  pub eliminate_holds : (cap left j : ℕ) (rows : Result (List Combination) Stop) → Holding P R rows → Holding P R (eliminate cap left j rows)
+  pub eliminate_holds : (cap left j : ℕ) (rows : Result (List Combination) EarlyEnd) → Holding P R rows → Holding P R (eliminate cap left j rows)
   eliminate_holds cap zero j rows holds = holds
   eliminate_holds cap (suc left) j (Err stop) holds = holds
   eliminate_holds cap (suc left) j (Ok rows) holds =

@@ -18,6 +18,6 @@ pub mod Gcds
 pub mod Places
 pub mod Sizes
 pub mod Stepping
-pub mod Uniform
 pub mod Picking
 pub mod Ending
+pub mod Weighted

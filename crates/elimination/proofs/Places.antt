@@ -1,5 +1,5 @@
 -- Where a row is placed, and what a row that joins a list does.
-use Rattle.std.proofs.Common.{◌≡◌, ◌↔◌, ℕ, suc, ◌<◌, ◌^◌, Bool, true, false, cond, not, List, [], ◌∷◌, ◌++◌, arith, refl, sym, ◌∙◌, ap, get_or, set, Option, Some, None, Result, Err, IsTrue}
+use Rattle.std.proofs.Common.{◌≡◌, ◌↔◌, ℕ, suc, ◌<◌, ◌^◌, Bool, true, false, cond, not, List, [], ◌∷◌, ◌++◌, arith, refl, sym, ◌∙◌, ap, get_or, set, Option, Some, None, Err, IsTrue}
 use Rattle.std.specs.Prelude.{ℤ, unsigned_abs, int_lt, nat_le, position}
 use Rattle.std.specs.List.{AllByRecursion}
 use Rattle.std.proofs.lemmas.List.{get_or_default, set-get_or}
@@ -8,11 +8,10 @@ use Rattle.std.proofs.lemmas.Bool.{cond-true, cond-false}
 use Rattle.std.proofs.lemmas.Bool.Decides.{nat_tests}
 use Rattle.std.proofs.lemmas.List.Elements.{All-from_recursion, recursion_from_All}
 use Rattle.lin_terms.specs.Row.{IsNarrow}
-use Rattle.elimination.specs.declared.answer.Stop.{Stop}
-use Rattle.elimination.specs.declared.answer.Stop.TheVariants.{AtLimit}
+use Rattle.elimination.specs.declared.answer.EarlyEnd.TheVariants.{AtLimit}
 use Rattle.elimination.specs.declared.answer.Limit.TheVariants.{WideRow}
 use Rattle.elimination.specs.Combination.{Combination}
-use Rattle.elimination.specs.Joining.{numbers_of, primitive, is_wide, has_no_variable, judged, is_parallel, tighter, placed, added, counted, admitted, joined}
+use Rattle.elimination.specs.Joining.{numbers_of, primitive, is_wide, is_parallel, tighter, placed, kept, admitted, joined}
 use Rattle.elimination.specs.Working.{IsNarrowCombination}
 use Rattle.elimination.proofs.Found.{not_found, found}
 use Rattle.elimination.proofs.Lists.{all_append, all_front, all_back}
@@ -92,22 +91,24 @@ width_is narrow row both = by_width (is_wide (numbers_of row)) narrow row refl b
 
 -- ---- what joins
 
-joined_by : (wide : Bool) (cap : ℕ) (rows : List Combination) (raw row : Combination) → row ≡ primitive raw → is_wide (numbers_of row) ≡ wide
-    → joined cap rows raw ≡ cond wide (Err (AtLimit WideRow)) (cond (has_no_variable row.row.coefs) (judged rows row) (counted cap (added rows row)))
-joined_by wide cap rows raw row is tested =
-    ap (admitted cap rows) (sym is)
-    ∙ ap (λ (t : Bool). cond {A = Result (List Combination) Stop} t (Err (AtLimit WideRow)) (cond (has_no_variable row.row.coefs) (judged rows row) (counted cap (added rows row)))) tested
+-- a row that fits is kept
+pub some_row : (row : Combination) (narrow : Bool) → (IsTrue narrow ↔ IsNarrowCombination row) → narrow ≡ true
+    → ◌≡◌ {A = Option Combination} (cond (is_wide (numbers_of row)) None (Some row)) (Some row)
+some_row row narrow both is = cond-false (is_wide (numbers_of row)) None (Some row) (width_is narrow row both ∙ ap not is)
+
+-- what a row that was kept says
+pub kept_same : (wide : Bool) (row found : Combination) → ◌≡◌ {A = Option Combination} (Some found) (cond wide None (Some row)) → (row ≡ found) × (wide ≡ false)
+kept_same true row found e = cc
+kept_same false row found e = (cc, refl)
+
+pub none_wide : (wide : Bool) (row : Combination) → ◌≡◌ {A = Option Combination} None (cond wide None (Some row)) → wide ≡ true
+none_wide true row e = refl
+none_wide false row e = cc
 
 pub joined_wide : (cap : ℕ) (rows : List Combination) (raw row : Combination) → row ≡ primitive raw → is_wide (numbers_of row) ≡ true
     → joined cap rows raw ≡ Err (AtLimit WideRow)
-joined_wide cap rows raw row is wide = joined_by true cap rows raw row is wide
+joined_wide cap rows raw row is wide = ap (admitted cap rows) (sym is) ∙ cond-true (is_wide (numbers_of row)) (Err (AtLimit WideRow)) (kept cap rows row) wide
 
-pub joined_judged : (cap : ℕ) (rows : List Combination) (raw row : Combination) → row ≡ primitive raw → is_wide (numbers_of row) ≡ false
-    → has_no_variable row.row.coefs ≡ true → joined cap rows raw ≡ judged rows row
-joined_judged cap rows raw row is narrow no_variable =
-    joined_by false cap rows raw row is narrow ∙ cond-true (has_no_variable row.row.coefs) (judged rows row) (counted cap (added rows row)) no_variable
-
-pub joined_counted : (cap : ℕ) (rows : List Combination) (raw row : Combination) → row ≡ primitive raw → is_wide (numbers_of row) ≡ false
-    → has_no_variable row.row.coefs ≡ false → joined cap rows raw ≡ counted cap (added rows row)
-joined_counted cap rows raw row is narrow variable =
-    joined_by false cap rows raw row is narrow ∙ cond-false (has_no_variable row.row.coefs) (judged rows row) (counted cap (added rows row)) variable
+pub joined_kept : (cap : ℕ) (rows : List Combination) (raw row : Combination) → row ≡ primitive raw → is_wide (numbers_of row) ≡ false
+    → joined cap rows raw ≡ kept cap rows row
+joined_kept cap rows raw row is narrow = ap (admitted cap rows) (sym is) ∙ cond-false (is_wide (numbers_of row)) (Err (AtLimit WideRow)) (kept cap rows row) narrow

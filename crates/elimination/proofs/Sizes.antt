@@ -1,19 +1,16 @@
 -- How great the numbers of sums are.
-use Rattle.std.proofs.Common.{ℕ, zero, suc, List, [], ◌∷◌, arith}
-use Rattle.std.specs.Prelude.{ℤ, pos, negsuc, neg_ℤ, ◌+ℤ◌, ◌*ℤ◌}
+use Rattle.std.proofs.Common.{ℕ, ◌/◌, ◌<◌, ◌≤◌, List, [], ◌∷◌, map, arith}
+use Rattle.std.specs.Prelude.{ℤ, pos, negsuc, ◌+ℤ◌, ◌*ℤ◌}
 use Rattle.std.specs.List.{AllByRecursion}
-use Rattle.std.proofs.lemmas.Int.{ints}
-use Rattle.std.proofs.lemmas.Bool.{cond_both}
 use Rattle.std.proofs.lemmas.List.Elements.{All-from_recursion, recursion_from_All}
 use Rattle.lin_terms.specs.Row.{IsNarrow}
+use Rattle.lin_terms.specs.Divisor.{floor_div}
 use Rattle.lin_terms.specs.Vectors.{plus, scaled}
-use Rattle.lin_terms.proofs.Entries.{get_or_all}
 use Rattle.farkas_check.proofs.Wide.{unsigned_abs-product, unsigned_abs-sum}
-use Rattle.elimination.specs.Combination.{Combination, entry, is_zero, sign, size, combined}
-use Rattle.elimination.specs.Column.{reduced, paired}
-use Rattle.elimination.specs.Joining.{numbers_of}
-use Rattle.elimination.specs.Working.{IsSmall, IsSmallCombination, IsNarrowCombination, AreWorking}
-use Rattle.elimination.proofs.Lists.{all_append, all_weaker}
+use Rattle.elimination.specs.Combination.{Combination, combined}
+use Rattle.elimination.specs.Joining.{numbers_of, divided}
+use Rattle.elimination.specs.Working.{IsSmall, IsSmallCombination, IsNarrowCombination}
+use Rattle.elimination.proofs.Lists.{all_append, all_front, all_back, all_map, all_weaker}
 
 small_of_narrow : (x : ℤ) → IsNarrow x → IsSmall x
 small_of_narrow x narrow = omega arith
@@ -57,22 +54,25 @@ small_combination row narrow =
           (all_weaker IsNarrow IsSmall small_of_narrow row.multipliers (recursion_from_All IsNarrow row.multipliers narrow.multipliers)),
     )
 
-entry_narrow : (j : ℕ) (row : Combination) → IsNarrowCombination row → IsNarrow (entry j row)
-entry_narrow j row narrow = get_or_all IsNarrow row.row.coefs j (pos 0) (omega arith) (recursion_from_All IsNarrow row.row.coefs narrow.coefs)
+-- ---- quotients
 
-signed_narrow : (a b : ℤ) → IsNarrow b → IsNarrow (neg_ℤ (sign a *ℤ b))
-signed_narrow (pos zero) b narrow = omega (arith, ints)
-signed_narrow (pos (suc n)) b narrow = omega (arith, ints)
-signed_narrow (negsuc n) b narrow = omega (arith, ints)
+below : (n d : ℕ) → 0 < d → n / d ≤ n
+below n d positive = omega arith
 
-pub small_paired : (j : ℕ) (lower upper : Combination) → AreWorking lower upper → IsSmallCombination (paired j lower upper)
-small_paired j lower upper working =
-    small_combined (size (entry j upper)) lower (entry j lower) upper (entry_narrow j upper working.second_narrow) (entry_narrow j lower working.first_narrow) working.first_narrow working.second_narrow
+small_quotient : (d : ℕ) (x : ℤ) → 0 < d → IsSmall x → IsSmall (floor_div x d)
+small_quotient d (pos n) positive small = omega (arith, below n d positive)
+small_quotient d (negsuc n) positive small = omega (arith, below n d positive)
 
-pub small_reduced : (j : ℕ) (pivot row : Combination) → AreWorking pivot row → IsSmallCombination (reduced j pivot row)
-small_reduced j pivot row working =
-    let k : ℤ = size (entry j pivot) in
-    let l : ℤ = neg_ℤ (sign (entry j pivot) *ℤ entry j row) in
-    cond_both (is_zero (entry j row)) row (combined k row l pivot) IsSmallCombination (λ is. small_combination row working.second_narrow)
-    (λ other. small_combined k row l pivot (entry_narrow j pivot working.first_narrow)
-    (signed_narrow (entry j pivot) (entry j row) (entry_narrow j row working.second_narrow)) working.second_narrow working.first_narrow)
+small_quotients : (d : ℕ) (xs : List ℤ) → 0 < d → AllByRecursion IsSmall xs → AllByRecursion IsSmall (map (λ x. floor_div x d) xs)
+small_quotients d xs positive small = all_map IsSmall IsSmall (λ x. floor_div x d) (λ x is. small_quotient d x positive is) xs small
+
+pub small_divided : (d : ℕ) (row : Combination) → 0 < d → IsSmallCombination row → IsSmallCombination (divided d row)
+small_divided d row positive small =
+    let all = recursion_from_All IsSmall (numbers_of row) small in
+    let coefs : List ℤ = map (λ x. floor_div x d) row.row.coefs in
+    let multipliers : List ℤ = map (λ x. floor_div x d) row.multipliers in
+    All-from_recursion IsSmall (numbers_of (divided d row)) (
+      small_quotient d row.row.constant positive all.0,
+      all_append IsSmall coefs multipliers (small_quotients d row.row.coefs positive (all_front IsSmall row.row.coefs row.multipliers all.1))
+          (small_quotients d row.multipliers positive (all_back IsSmall row.row.coefs row.multipliers all.1)),
+    )

@@ -1,5 +1,5 @@
 -- The list of all multipliers, and the list of those that are kept.
-use Rattle.std.proofs.Common.{◌≡◌, ◌↔◌, ℕ, zero, suc, ◌+◌, ◌-◌, ◌<◌, ◌≤◌, Bool, true, false, cond, eqb, List, [], ◌∷◌, ◌++◌, map, arith, refl, sym, ◌∙◌, ap, subst, length, replicate}
+use Rattle.std.proofs.Common.{◌≡◌, ◌↔◌, ℕ, zero, suc, ◌+◌, ◌-◌, ◌<◌, ◌≤◌, Bool, true, false, cond, eqb, List, [], ◌∷◌, ◌++◌, map, arith, refl, sym, ◌∙◌, ap, subst, replicate}
 use Rattle.std.specs.Int.{int_div_euclid}
 use Rattle.std.specs.Prelude.{ℤ, pos, negsuc, ◌<ℤ◌, ◌+ℤ◌, ◌*ℤ◌, All}
 use Rattle.std.specs.List.{AllByRecursion}
@@ -7,21 +7,12 @@ use Rattle.std.proofs.lemmas.Int.{ints}
 use Rattle.std.proofs.lemmas.Bool.{eq-eqb}
 use Rattle.std.proofs.lemmas.Bool.Decides.{nat_tests}
 use Rattle.std.proofs.lemmas.List.Elements.{All-from_recursion, recursion_from_All}
-use Rattle.lin_terms.specs.Vectors.{plus, scaled}
+use Rattle.lin_terms.specs.Vectors.{scaled}
 use Rattle.lin_terms.specs.Row.{IsNarrow}
 use Rattle.elimination.specs.declared.multipliers.Multiplier.{Multiplier}
 use Rattle.elimination.specs.Sparse.{at, table, IsRising, front_of, behind_row, quotients_of}
 use Rattle.lin_terms.proofs.Entries.{moved}
 use Rattle.elimination.proofs.Merging.{rising_bounds, rising_behind, from_first, at-behind}
-
-pub length-table : (first count : ℕ) (entries : List Multiplier) → length (table first count entries) ≡ count
-length-table first zero entries = refl
-length-table first (suc count) entries = ap suc (length-table (suc first) count entries)
-
-pub table-sum : (k l : ℤ) (first count : ℕ) (made ps qs : List Multiplier) → ((row : ℕ) → at made row ≡ (k *ℤ at ps row) +ℤ (l *ℤ at qs row))
-    → table first count made ≡ plus (scaled k (table first count ps)) (scaled l (table first count qs))
-table-sum k l first zero made ps qs sums = refl
-table-sum k l first (suc count) made ps qs sums = rw (sums first, table-sum k l (suc first) count made ps qs sums) refl
 
 -- ---- rows that are not there
 
@@ -194,12 +185,6 @@ pub narrow_entries : (count : ℕ) (entries : List Multiplier) (all : List ℤ) 
 narrow_entries count entries all rising is narrow =
     All-from_recursion (λ (entry : Multiplier). IsNarrow entry.value) entries
     (entries_have IsNarrow count entries rising (recursion_from_All IsNarrow (table 0 count entries) (subst (All IsNarrow) (sym is) narrow)))
-
--- lists that are as long are of as many rows
-pub same_count : (first_count second_count : ℕ) (firsts seconds : List Multiplier) (first second : List ℤ) → table 0 first_count firsts ≡ first
-    → table 0 second_count seconds ≡ second → length first ≡ length second → second_count ≡ first_count
-same_count first_count second_count firsts seconds first second first_is second_is lengths =
-    omega (arith, length-table 0 first_count firsts, length-table 0 second_count seconds, ap length first_is, ap length second_is)
 
 pub narrow_table : (count : ℕ) (entries : List Multiplier) (all : List ℤ) → IsRising 0 count entries → table 0 count entries ≡ all
     → All (λ entry. IsNarrow entry.value) entries ↔ All IsNarrow all

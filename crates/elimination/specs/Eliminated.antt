@@ -6,8 +6,8 @@ use Rattle.elimination.specs.declared.answer.Answer.{Answer}
 use Rattle.elimination.specs.declared.answer.Answer.TheVariants.{Refuted, NotRefutable}
 use Rattle.elimination.specs.declared.answer.Limit.{Limit}
 use Rattle.elimination.specs.declared.answer.Limit.TheVariants.{ManyRows}
-use Rattle.elimination.specs.declared.answer.Stop.{Stop}
-use Rattle.elimination.specs.declared.answer.Stop.TheVariants.{Contradiction, AtLimit}
+use Rattle.elimination.specs.declared.answer.EarlyEnd.{EarlyEnd}
+use Rattle.elimination.specs.declared.answer.EarlyEnd.TheVariants.{Contradiction, AtLimit}
 use Rattle.elimination.specs.Combination.{Combination}
 use Rattle.elimination.specs.Column.{projected}
 use Rattle.elimination.specs.Joining.{list_of}
@@ -22,13 +22,13 @@ initial before [] = []
 initial before (row ∷ rows) = given_row before (length rows) row ∷ initial (suc before) rows
 
 -- the rows that are left where `left` columns are eliminated, from column j on
-abbrev pub eliminate : ℕ → ℕ → ℕ → Result (List Combination) Stop → Result (List Combination) Stop
+abbrev pub eliminate : ℕ → ℕ → ℕ → Result (List Combination) EarlyEnd → Result (List Combination) EarlyEnd
 eliminate cap zero j rows = rows
 eliminate cap (suc left) j (Err stop) = Err stop
 eliminate cap (suc left) j (Ok rows) = eliminate cap left (suc j) (list_of cap (projected j rows))
 
 -- Where no column is left and nothing has stopped it, the given rows are not refutable.
-abbrev pub answer_of : Result (List Combination) Stop → Result Answer Limit
+abbrev pub answer_of : Result (List Combination) EarlyEnd → Result Answer Limit
 answer_of (Ok rows) = Ok NotRefutable
 answer_of (Err (Contradiction multipliers)) = Ok (Refuted multipliers)
 answer_of (Err (AtLimit limit)) = Err limit

@@ -6,8 +6,8 @@ use lib.Pointwise.{pointwise}
 use Rattle.lin_terms.specs.Divisor.{gcd_of, floor_div}
 use Rattle.lin_terms.specs.Tight.{divided_row}
 use Rattle.elimination.specs.declared.answer.Limit.TheVariants.{WideRow, ManyRows}
-use Rattle.elimination.specs.declared.answer.Stop.{Stop}
-use Rattle.elimination.specs.declared.answer.Stop.TheVariants.{Contradiction, AtLimit}
+use Rattle.elimination.specs.declared.answer.EarlyEnd.{EarlyEnd}
+use Rattle.elimination.specs.declared.answer.EarlyEnd.TheVariants.{Contradiction, AtLimit}
 use Rattle.elimination.specs.Combination.{Combination, is_zero, is_positive, is_negative}
 
 -- ---- small numbers
@@ -46,7 +46,7 @@ abbrev pub turned : ℤ → List ℤ → List ℤ
 turned constant multipliers = if is_positive constant then map neg_ℤ multipliers else multipliers
 
 -- A row without variables is left out where it holds, and is a contradiction otherwise.
-abbrev pub judged : List Combination → Combination → Result (List Combination) Stop
+abbrev pub judged : List Combination → Combination → Result (List Combination) EarlyEnd
 judged rows row =
     if allows row.row.equality row.row.constant then Ok rows
     else Err (Contradiction (turned row.row.constant row.multipliers))
@@ -71,28 +71,31 @@ placed (earlier ∷ rows) row =
 abbrev pub added : List Combination → Combination → List Combination
 added rows row = if row.row.equality then rows ++ row ∷ [] else placed rows row
 
-abbrev pub counted : ℕ → List Combination → Result (List Combination) Stop
+abbrev pub counted : ℕ → List Combination → Result (List Combination) EarlyEnd
 counted cap rows = if nat_le (length rows) cap then Ok rows else Err (AtLimit ManyRows)
 
 -- ---- all rows
 
--- the list with a primitive row, or what stops it
-abbrev pub admitted : ℕ → List Combination → Combination → Result (List Combination) Stop
-admitted cap rows row =
-    if is_wide (numbers_of row) then Err (AtLimit WideRow)
-    else if has_no_variable row.row.coefs then judged rows row
+-- the list with a row whose numbers are narrow, or what ends it
+abbrev pub kept : ℕ → List Combination → Combination → Result (List Combination) EarlyEnd
+kept cap rows row =
+    if has_no_variable row.row.coefs then judged rows row
     else counted cap (added rows row)
 
+-- the list with a primitive row, or what ends it
+abbrev pub admitted : ℕ → List Combination → Combination → Result (List Combination) EarlyEnd
+admitted cap rows row = if is_wide (numbers_of row) then Err (AtLimit WideRow) else kept cap rows row
+
 -- the list with the row
-abbrev pub joined : ℕ → List Combination → Combination → Result (List Combination) Stop
+abbrev pub joined : ℕ → List Combination → Combination → Result (List Combination) EarlyEnd
 joined cap rows row = admitted cap rows (primitive row)
 
 -- the list with these rows, in order, up to the first that stops it
-abbrev pub joined_each : ℕ → Result (List Combination) Stop → List Combination → Result (List Combination) Stop
+abbrev pub joined_each : ℕ → Result (List Combination) EarlyEnd → List Combination → Result (List Combination) EarlyEnd
 joined_each cap (Err stop) later = Err stop
 joined_each cap (Ok rows) [] = Ok rows
 joined_each cap (Ok rows) (row ∷ later) = joined_each cap (joined cap rows row) later
 
 -- a new list of these rows
-abbrev pub list_of : ℕ → List Combination → Result (List Combination) Stop
+abbrev pub list_of : ℕ → List Combination → Result (List Combination) EarlyEnd
 list_of cap rows = joined_each cap (Ok []) rows

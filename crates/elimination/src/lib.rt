@@ -11,13 +11,13 @@
 mod answer;
 mod column;
 mod combination;
+mod eliminate;
 mod joining;
 mod laws;
 mod multipliers;
 #[cfg(test)]
 mod tests;
-mod verdict;
 
 pub use answer::{Answer, Limit};
+pub use eliminate::decide;
 pub use laws::{law_of_limits, law_of_points, law_of_refutability, law_of_refutations};
-pub use verdict::decide;

@@ -42,11 +42,13 @@ impl Model for Multipliers {
     ghost invariant = { λ m. IsRising 0 m.count m.entries };
 }
 
-/// How often each of two rows is taken in their sum.
+/// How often each of two rows is taken in their sum. Both numbers are below 2^56 in size.
 #[derive(Debug, Drop)]
 pub struct Weights {
     pub first: i128,
     pub second: i128,
+    ghost first_fits: { IsNarrow first },
+    ghost second_fits: { IsNarrow second },
 }
 
 /// The product of two narrow numbers.
@@ -92,8 +94,6 @@ fn behind_row(entries: &[Multiplier], row: u32) -> &[Multiplier]
 
 /// What the sum of two lists, each taken so often as its weight says, has for a row that stands in front or in neither.
 fn front_sum(weights: &Weights, ps: &[Multiplier], qs: &[Multiplier], row: u32) -> i128
-    requires first_narrow { IsNarrow weights.now.first }
-    requires second_narrow { IsNarrow weights.now.second }
     requires ps_narrow { All (λ entry. IsNarrow entry.value) ps.now }
     requires qs_narrow { All (λ entry. IsNarrow entry.value) qs.now }
     ensures { result ≡ (weights.now.first *ℤ front_of row ps.now) +ℤ (weights.now.second *ℤ front_of row qs.now) }
@@ -119,8 +119,6 @@ fn sum_of_entries(
     ps: &[Multiplier],
     qs: &[Multiplier],
 ) -> Result<Vec<Multiplier>, AllocError>
-    requires first_narrow { IsNarrow weights.now.first }
-    requires second_narrow { IsNarrow weights.now.second }
     requires ps_narrow { All (λ entry. IsNarrow entry.value) ps.now }
     requires qs_narrow { All (λ entry. IsNarrow entry.value) qs.now }
     requires ps_rising { IsRising 0 count ps.now }
@@ -238,14 +236,11 @@ impl Multipliers {
         first: &Multipliers,
         second: &Multipliers,
     ) -> Result<Multipliers, AllocError>
-        requires lengths { length first.now ≡ length second.now }
-        requires first_weight_narrow { IsNarrow weights.now.first }
-        requires second_weight_narrow { IsNarrow weights.now.second }
         requires first_narrow { All IsNarrow first.now }
         requires second_narrow { All IsNarrow second.now }
         ensures { IfOk result (λ made. made ≡ plus (scaled weights.now.first first.now) (scaled weights.now.second second.now)) }
     {
-        let count = first.count;
+        let count = first.count.max(second.count);
         let entries = sum_of_entries(
             alloc,
             count,
@@ -293,16 +288,5 @@ impl Multipliers {
     {
         let made = scaled_list(alloc, times, self.count, self.entries.as_slice())?;
         Ok(Items::from_vec(made))
-    }
-
-    /// The same multipliers once more.
-    pub fn copy(&self, alloc: Global) -> Result<Multipliers, AllocError>
-        ensures { IfOk result (λ made. made ≡ self.now) }
-    {
-        let entries = Items::from_slice(alloc, self.entries.as_slice())?;
-        Ok(Multipliers {
-            count: self.count,
-            entries,
-        })
     }
 }
