@@ -3,7 +3,7 @@ use Rattle.std.proofs.Common.{◌≡◌, zero, suc, List, [], ◌∷◌, arith, 
 use Rattle.std.specs.Prelude.{ℤ, pos, negsuc, ◌+ℤ◌, ◌*ℤ◌, ◌-ℤ◌, ◌≤ℤ◌, ◌<ℤ◌}
 use Rattle.std.specs.List.{AllByRecursion}
 use Rattle.std.proofs.lemmas.Int.{ints, by_lt_z}
-use Rattle.lin_terms.proofs.Ring.{as_dif, same_dif, difs}
+use Rattle.elimination.proofs.Ring.{as_dif, same_dif, difs}
 use Rattle.lin_terms.proofs.Signs.{nonneg_add, nonneg_mul}
 
 -- a positive factor is cancelled

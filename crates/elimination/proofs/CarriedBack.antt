@@ -5,7 +5,7 @@ use Rattle.std.specs.List.{AllByRecursion}
 use Rattle.std.proofs.lemmas.Int.{ints}
 use Rattle.lin_terms.specs.Vectors.{scaled}
 use Rattle.lin_terms.specs.Row.{Allows, Meets}
-use Rattle.lin_terms.proofs.Ring.{as_dif, same_dif, difs, dif_pos}
+use Rattle.elimination.proofs.Ring.{as_dif, same_dif, difs, dif_pos}
 use Rattle.elimination.specs.Combination.{Combination, entry, is_zero, is_positive, is_negative, sign, size, combined}
 use Rattle.elimination.specs.Column.{pivot_of, reduced, paired, without, lower_bounds, upper_bounds, pairs, projected_by, projected}
 use Rattle.elimination.proofs.Lists.{all_by, all_weaker, all_front, all_back, all_of_map}

@@ -7,7 +7,7 @@ use Rattle.std.proofs.lemmas.List.{get_or_past, length-replicate}
 use Rattle.std.proofs.lemmas.List.Elements.{All-from_recursion, recursion_from_All}
 use Rattle.lin_terms.specs.declared.row.Row.{Row}
 use Rattle.lin_terms.specs.Row.{Meets, HaveOneLength, columns_of}
-use Rattle.lin_terms.proofs.Ring.{as_dif, same_dif, difs, dif_pos}
+use Rattle.elimination.proofs.Ring.{as_dif, same_dif, difs, dif_pos}
 use Rattle.elimination.specs.declared.answer.Answer.TheVariants.{NotRefutable}
 use Rattle.elimination.specs.declared.answer.Limit.TheVariants.{ManyRows}
 use Rattle.elimination.specs.declared.answer.EarlyEnd.{EarlyEnd}
@@ -21,7 +21,7 @@ use Rattle.elimination.proofs.Lists.{Anything, all_weaker}
 use Rattle.elimination.proofs.Points.{MeetsEach, entry-combined, sign-mul, zero_is, size_of_negative}
 use Rattle.elimination.proofs.Primitive.{entry-primitive}
 use Rattle.elimination.proofs.PointsOfLists.{HasWidePoint, columns_back, eliminate_err, list_of_back}
-use Rattle.elimination.proofs.Keeping.{Holding, Joins, new_list_holds, Steps, projected_has}
+use Rattle.elimination.proofs.Keeping.{Holding, Owes, new_list_holds, Steps, projected_has}
 
 -- ---- columns that are gone, where those before j are eliminated of n
 
@@ -74,7 +74,7 @@ gone_steps n j = record {
       has_lower.0 has_upper.0;
 }
 
-gone_joins : (n j : ℕ) (row : Combination) → HasGone n j row → Joins (IsLeft n j) Anything (primitive row)
+gone_joins : (n j : ℕ) (row : Combination) → HasGone n j row → Owes (IsLeft n j) Anything (primitive row)
 gone_joins n j row has_gone = record {
   kept = λ narrow variable. ((λ i gone. entry-primitive i row (has_gone i gone)), variable);
   failed = λ narrow no_variable fails. tt;

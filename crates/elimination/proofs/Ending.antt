@@ -14,7 +14,7 @@ use Rattle.elimination.specs.Combination.{Combination}
 use Rattle.elimination.specs.Column.{projected}
 use Rattle.elimination.specs.Joining.{joined, joined_each, list_of}
 use Rattle.elimination.specs.Eliminated.{given_row, initial, eliminate}
-use Rattle.elimination.specs.Working.{IsNarrowCombination, IsSmallCombination}
+use Rattle.elimination.specs.Working.{IsFittingCombination, IsSmallCombination}
 use Rattle.elimination.specs.Outcome.{IsAnswer}
 use Rattle.elimination.proofs.Lists.{all_append}
 use Rattle.elimination.proofs.Sizes.{small_combination}
@@ -26,7 +26,7 @@ narrow_zeros : (n : ℕ) → AllByRecursion IsNarrow (replicate n (pos 0))
 narrow_zeros zero = tt
 narrow_zeros (suc n) = (omega arith, narrow_zeros n)
 
-narrow_given : (before behind : ℕ) (row : Row) → IsNarrowRow row → IsNarrowCombination (given_row before behind row)
+narrow_given : (before behind : ℕ) (row : Row) → IsNarrowRow row → IsFittingCombination (given_row before behind row)
 narrow_given before behind row narrow = record {
   constant = narrow.constant;
   coefs = narrow.coefs;

@@ -1,3 +1,5 @@
+pub mod Ring
+pub mod Wide
 pub mod Lists
 pub mod Found
 pub mod Points

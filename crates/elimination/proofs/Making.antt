@@ -10,18 +10,18 @@ use Rattle.lin_terms.specs.declared.row.Row.{Row}
 use Rattle.lin_terms.specs.Vectors.{dot, plus, scaled}
 use Rattle.lin_terms.specs.Row.{columns_of}
 use Rattle.lin_terms.specs.Divisor.{floor_div}
-use Rattle.lin_terms.proofs.Ring.{as_dif, same_dif, difs, mul-minus}
+use Rattle.elimination.proofs.Ring.{as_dif, same_dif, difs, mul-minus}
 use Rattle.lin_terms.proofs.Signs.{nonneg_add, nonneg_mul, zero_factor}
 use Rattle.lin_terms.proofs.Dots.{zero_entries, dot-replicate}
-use Rattle.lin_terms.proofs.Entries.{get_or_all}
+use Rattle.elimination.proofs.Lists.{get_or_all}
 use Rattle.lin_terms.proofs.Divisors.{exact_quotient, dot-quotients}
 use Rattle.farkas_check.specs.Refutes.{column, constants, MayMultiply, Refutes}
 use Rattle.elimination.specs.Combination.{Combination, entry, is_zero, is_positive, sign, size, combined}
-use Rattle.elimination.specs.Joining.{divided, primitive, allows, turned, list_of}
+use Rattle.elimination.specs.Joining.{divided, primitive, allows, refuting_multipliers, list_of}
 use Rattle.elimination.specs.Eliminated.{initial, eliminate}
 use Rattle.elimination.proofs.Points.{dot-sum, entry-combined, zero_is}
 use Rattle.elimination.proofs.Primitive.{IsDivisor, divisor_of, get_or-quotients}
-use Rattle.elimination.proofs.Keeping.{Holding, Joins, Steps, new_list_holds, eliminate_holds}
+use Rattle.elimination.proofs.Keeping.{Holding, Owes, Steps, new_list_holds, eliminate_holds}
 
 -- ---- what it means that multipliers make a row
 
@@ -198,14 +198,14 @@ module _ (given : List Row) (ms : List ℤ) (columns : (j : ℕ) → dot ms (col
     negative_constant = rw (dot-negated ms (constants given), is) positive;
   }
 
-  contradicted : (made : Bool) (c : ℤ) → AreMadeSigns made given ms → dot ms (constants given) ≡ c → allows made c ≡ false → Refutes given (turned c ms)
+  contradicted : (made : Bool) (c : ℤ) → AreMadeSigns made given ms → dot ms (constants given) ≡ c → allows made c ≡ false → Refutes given (refuting_multipliers c ms)
   contradicted true (pos zero) signs is fails = cc
   contradicted true (pos (suc k)) signs is fails = with_other_sign (pos (suc k)) signs is (omega (arith, ints))
   contradicted true (negsuc k) signs is fails = as_they_are true (negsuc k) signs is (omega (arith, ints))
   contradicted false (pos k) signs is fails = cc
   contradicted false (negsuc k) signs is fails = as_they_are false (negsuc k) signs is (omega (arith, ints))
 
-made_joins : (given : List Row) (row : Combination) → IsMade given row → Joins (IsMade given) (Refutes given) (primitive row)
+made_joins : (given : List Row) (row : Combination) → IsMade given row → Owes (IsMade given) (Refutes given) (primitive row)
 made_joins given row made =
     let all = made_primitive given row made in
     let joins : Combination = primitive row in

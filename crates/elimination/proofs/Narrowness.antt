@@ -11,7 +11,7 @@ use Rattle.elimination.specs.Combination.{Combination, is_positive}
 use Rattle.elimination.specs.Joining.{numbers_of, primitive, is_wide, list_of}
 use Rattle.elimination.specs.Eliminated.{initial, eliminate}
 use Rattle.elimination.proofs.Lists.{Anything, all_anything, all_map, all_back}
-use Rattle.elimination.proofs.Keeping.{Holding, Joins, Steps, new_list_holds, eliminate_holds}
+use Rattle.elimination.proofs.Keeping.{Holding, Owes, Steps, new_list_holds, eliminate_holds}
 
 not_wide : (n : ℕ) → nat_le (2 ^ 56) n ≡ false → n < 2 ^ 56
 not_wide n e = grind (arith, nat_tests)
@@ -31,7 +31,7 @@ narrow_negated numbers narrow = all_map IsNarrow IsNarrow neg_ℤ one numbers na
 abbrev pub AreNarrow : List ℤ → Type 0
 AreNarrow multipliers = AllByRecursion IsNarrow multipliers
 
-narrow_joins : (row : Combination) → Anything row → Joins Anything AreNarrow (primitive row)
+narrow_joins : (row : Combination) → Anything row → Owes Anything AreNarrow (primitive row)
 narrow_joins row anything =
     let joins : Combination = primitive row in
     record {

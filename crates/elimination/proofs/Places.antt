@@ -12,7 +12,7 @@ use Rattle.elimination.specs.declared.answer.EarlyEnd.TheVariants.{AtLimit}
 use Rattle.elimination.specs.declared.answer.Limit.TheVariants.{WideRow}
 use Rattle.elimination.specs.Combination.{Combination}
 use Rattle.elimination.specs.Joining.{numbers_of, primitive, is_wide, is_parallel, tighter, placed, kept, admitted, joined}
-use Rattle.elimination.specs.Working.{IsNarrowCombination}
+use Rattle.elimination.specs.Working.{IsFittingCombination}
 use Rattle.elimination.proofs.Found.{not_found, found}
 use Rattle.elimination.proofs.Lists.{all_append, all_front, all_back}
 use Rattle.elimination.proofs.Narrowness.{narrow_numbers}
@@ -60,11 +60,11 @@ placed_instead rows row earlier place at false is some there less =
 
 -- ---- narrow rows
 
-numbers_narrow : (row : Combination) → IsNarrowCombination row → AllByRecursion IsNarrow (numbers_of row)
+numbers_narrow : (row : Combination) → IsFittingCombination row → AllByRecursion IsNarrow (numbers_of row)
 numbers_narrow row narrow =
     (narrow.constant, all_append IsNarrow row.row.coefs row.multipliers (recursion_from_All IsNarrow row.row.coefs narrow.coefs) (recursion_from_All IsNarrow row.multipliers narrow.multipliers))
 
-pub narrow_combination : (row : Combination) → is_wide (numbers_of row) ≡ false → IsNarrowCombination row
+pub narrow_combination : (row : Combination) → is_wide (numbers_of row) ≡ false → IsFittingCombination row
 narrow_combination row e =
     let all = narrow_numbers (numbers_of row) e in
     record {
@@ -80,19 +80,19 @@ no_wide : (numbers : List ℤ) → AllByRecursion IsNarrow numbers → is_wide n
 no_wide [] narrow = refl
 no_wide (x ∷ numbers) narrow = rw (below_not_wide (unsigned_abs x) narrow.0, no_wide numbers narrow.1) refl
 
-by_width : (wide narrow : Bool) (row : Combination) → is_wide (numbers_of row) ≡ wide → (IsTrue narrow ↔ IsNarrowCombination row) → wide ≡ not narrow
+by_width : (wide narrow : Bool) (row : Combination) → is_wide (numbers_of row) ≡ wide → (IsTrue narrow ↔ IsFittingCombination row) → wide ≡ not narrow
 by_width true true row is both = sym is ∙ no_wide (numbers_of row) (numbers_narrow row (both.0 refl))
 by_width true false row is both = refl
 by_width false true row is both = refl
 by_width false false row is both = both.1 (narrow_combination row is)
 
-pub width_is : (narrow : Bool) (row : Combination) → (IsTrue narrow ↔ IsNarrowCombination row) → is_wide (numbers_of row) ≡ not narrow
+pub width_is : (narrow : Bool) (row : Combination) → (IsTrue narrow ↔ IsFittingCombination row) → is_wide (numbers_of row) ≡ not narrow
 width_is narrow row both = by_width (is_wide (numbers_of row)) narrow row refl both
 
 -- ---- what joins
 
 -- a row that fits is kept
-pub some_row : (row : Combination) (narrow : Bool) → (IsTrue narrow ↔ IsNarrowCombination row) → narrow ≡ true
+pub some_row : (row : Combination) (narrow : Bool) → (IsTrue narrow ↔ IsFittingCombination row) → narrow ≡ true
     → ◌≡◌ {A = Option Combination} (cond (is_wide (numbers_of row)) None (Some row)) (Some row)
 some_row row narrow both is = cond-false (is_wide (numbers_of row)) None (Some row) (width_is narrow row both ∙ ap not is)
 

@@ -9,7 +9,7 @@ use Rattle.std.proofs.lemmas.Bool.Decides.{Decides-int_eq}
 use lib.Pointwise.{pointwise, pointwise_decides}
 use Rattle.lin_terms.specs.Vectors.{dot, scaled}
 use Rattle.lin_terms.specs.Row.{Allows, Meets}
-use Rattle.lin_terms.proofs.Ring.{as_dif, same_dif, difs}
+use Rattle.elimination.proofs.Ring.{as_dif, same_dif, difs}
 use Rattle.lin_terms.proofs.Signs.{nonneg_add, nonneg_mul}
 use Rattle.lin_terms.proofs.Dots.{length-scaled, zero_entries, dot-zeros}
 use Rattle.elimination.specs.declared.answer.EarlyEnd.{EarlyEnd}
@@ -17,7 +17,7 @@ use Rattle.elimination.specs.declared.answer.EarlyEnd.TheVariants.{Contradiction
 use Rattle.elimination.specs.declared.answer.Limit.TheVariants.{WideRow, ManyRows}
 use Rattle.elimination.specs.Combination.{Combination, is_zero}
 use Rattle.elimination.specs.Column.{projected}
-use Rattle.elimination.specs.Joining.{numbers_of, primitive, is_wide, has_no_variable, allows, turned, judged, is_parallel, tighter, placed, added, counted, admitted, joined, joined_each, list_of}
+use Rattle.elimination.specs.Joining.{numbers_of, primitive, is_wide, has_no_variable, allows, refuting_multipliers, judged, is_parallel, tighter, placed, added, counted, admitted, joined, joined_each, list_of}
 use Rattle.elimination.specs.Eliminated.{eliminate}
 use Rattle.elimination.proofs.Lists.{all_front, all_back}
 use Rattle.elimination.proofs.Points.{MeetsEach, zero_is}
@@ -97,7 +97,7 @@ module _ (numbers : List ℤ) (d : ℤ) (not_negative : pos 0 ≤ℤ d) where
 
   judged_back : (rows : List Combination) (row : Combination) (out : List Combination) → has_no_variable row.row.coefs ≡ true → IsMetBefore rows row out (judged rows row)
   judged_back rows row out no_variable =
-      cond_both (allows row.row.equality row.row.constant) (Ok rows) (Err (Contradiction (turned row.row.constant row.multipliers))) (IsMetBefore rows row out)
+      cond_both (allows row.row.equality row.row.constant) (Ok rows) (Err (Contradiction (refuting_multipliers row.row.constant row.multipliers))) (IsMetBefore rows row out)
       (λ allowed e met. (subst (AllByRecursion Met) (sym (ok_same rows out e)) met, left_out numbers d row not_negative no_variable allowed)) (λ fails e met. cc)
 
   counted_back : (cap : ℕ) (rows : List Combination) (row : Combination) (out : List Combination) → IsMetBefore rows row out (counted cap (added rows row))

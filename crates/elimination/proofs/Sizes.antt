@@ -6,10 +6,10 @@ use Rattle.std.proofs.lemmas.List.Elements.{All-from_recursion, recursion_from_A
 use Rattle.lin_terms.specs.Row.{IsNarrow}
 use Rattle.lin_terms.specs.Divisor.{floor_div}
 use Rattle.lin_terms.specs.Vectors.{plus, scaled}
-use Rattle.farkas_check.proofs.Wide.{unsigned_abs-product, unsigned_abs-sum}
+use Rattle.elimination.proofs.Wide.{unsigned_abs-product, unsigned_abs-sum}
 use Rattle.elimination.specs.Combination.{Combination, combined}
 use Rattle.elimination.specs.Joining.{numbers_of, divided}
-use Rattle.elimination.specs.Working.{IsSmall, IsSmallCombination, IsNarrowCombination}
+use Rattle.elimination.specs.Working.{IsSmall, IsSmallCombination, IsFittingCombination}
 use Rattle.elimination.proofs.Lists.{all_append, all_front, all_back, all_map, all_weaker}
 
 small_of_narrow : (x : ℤ) → IsNarrow x → IsSmall x
@@ -33,7 +33,7 @@ small_sums k (x ∷ xs) l [] k_narrow l_narrow xs_narrow ys_narrow = small_scale
 small_sums k (x ∷ xs) l (y ∷ ys) k_narrow l_narrow xs_narrow ys_narrow =
     (small_sum k x l y k_narrow xs_narrow.0 l_narrow ys_narrow.0, small_sums k xs l ys k_narrow l_narrow xs_narrow.1 ys_narrow.1)
 
-pub small_combined : (k : ℤ) (p : Combination) (l : ℤ) (q : Combination) → IsNarrow k → IsNarrow l → IsNarrowCombination p → IsNarrowCombination q
+pub small_combined : (k : ℤ) (p : Combination) (l : ℤ) (q : Combination) → IsNarrow k → IsNarrow l → IsFittingCombination p → IsFittingCombination q
     → IsSmallCombination (combined k p l q)
 small_combined k p l q k_narrow l_narrow p_narrow q_narrow =
     let coefs : List ℤ = plus (scaled k p.row.coefs) (scaled l q.row.coefs) in
@@ -45,7 +45,7 @@ small_combined k p l q k_narrow l_narrow p_narrow q_narrow =
           (small_sums k p.multipliers l q.multipliers k_narrow l_narrow (recursion_from_All IsNarrow p.multipliers p_narrow.multipliers) (recursion_from_All IsNarrow q.multipliers q_narrow.multipliers)),
     )
 
-pub small_combination : (row : Combination) → IsNarrowCombination row → IsSmallCombination row
+pub small_combination : (row : Combination) → IsFittingCombination row → IsSmallCombination row
 small_combination row narrow =
     All-from_recursion IsSmall (numbers_of row) (
       small_of_narrow row.row.constant narrow.constant,

@@ -1,5 +1,5 @@
 -- The list of all multipliers, and the list of those that are kept.
-use Rattle.std.proofs.Common.{◌≡◌, ◌↔◌, ℕ, zero, suc, ◌+◌, ◌-◌, ◌<◌, ◌≤◌, Bool, true, false, cond, eqb, List, [], ◌∷◌, ◌++◌, map, arith, refl, sym, ◌∙◌, ap, subst, replicate}
+use Rattle.std.proofs.Common.{◌≡◌, ◌↔◌, ℕ, zero, suc, ◌+◌, ◌-◌, ◌<◌, ◌≤◌, Bool, true, false, cond, eqb, List, [], ◌∷◌, ◌++◌, map, arith, refl, sym, ◌∙◌, ap, subst, replicate, append_assoc}
 use Rattle.std.specs.Int.{int_div_euclid}
 use Rattle.std.specs.Prelude.{ℤ, pos, negsuc, ◌<ℤ◌, ◌+ℤ◌, ◌*ℤ◌, All}
 use Rattle.std.specs.List.{AllByRecursion}
@@ -11,7 +11,6 @@ use Rattle.lin_terms.specs.Vectors.{scaled}
 use Rattle.lin_terms.specs.Row.{IsNarrow}
 use Rattle.elimination.specs.declared.multipliers.Multiplier.{Multiplier}
 use Rattle.elimination.specs.Sparse.{at, table, IsRising, front_of, behind_row, quotients_of}
-use Rattle.lin_terms.proofs.Entries.{moved}
 use Rattle.elimination.proofs.Merging.{rising_bounds, rising_behind, from_first, at-behind}
 
 -- ---- rows that are not there
@@ -151,8 +150,8 @@ pub list_step : (times : ℤ) (row count : ℕ) (left : List Multiplier) (made a
 list_step times row count left made after all below rising so_far is =
     let next : row + 1 ≡ suc row = omega arith in
     rw (next, is)
-    (moved made (scaled times (table row (count - row) left)) (scaled times (table (suc row) (count - suc row) (behind_row row left))) all (times *ℤ front_of row left)
-    (ap (λ t. scaled times t) (table_step row count left below rising)) so_far)
+    (append_assoc made ((times *ℤ front_of row left) ∷ []) (scaled times (table (suc row) (count - suc row) (behind_row row left)))
+    ∙ ap (λ t. made ++ scaled times t) (sym (table_step row count left below rising)) ∙ so_far)
 
 pub rising_step : (row count : ℕ) (left : List Multiplier) → row < count → IsRising row count left → IsRising (row + 1) count (behind_row row left)
 rising_step row count left below rising =

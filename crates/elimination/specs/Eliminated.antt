@@ -24,10 +24,10 @@ initial before (row ∷ rows) = given_row before (length rows) row ∷ initial (
 -- the rows that are left where `left` columns are eliminated, from column j on
 abbrev pub eliminate : ℕ → ℕ → ℕ → Result (List Combination) EarlyEnd → Result (List Combination) EarlyEnd
 eliminate cap zero j rows = rows
-eliminate cap (suc left) j (Err stop) = Err stop
+eliminate cap (suc left) j (Err early) = Err early
 eliminate cap (suc left) j (Ok rows) = eliminate cap left (suc j) (list_of cap (projected j rows))
 
--- Where no column is left and nothing has stopped it, the given rows are not refutable.
+-- Where no column is left and nothing has ended it early, the given rows are not refutable.
 abbrev pub answer_of : Result (List Combination) EarlyEnd → Result Answer Limit
 answer_of (Ok rows) = Ok NotRefutable
 answer_of (Err (Contradiction multipliers)) = Ok (Refuted multipliers)

@@ -33,6 +33,7 @@ is_wide numbers = list_any (λ number. nat_le (2 ^ 56) (unsigned_abs number)) nu
 
 -- ---- rows without variables
 
+-- Whether each coefficient is 0.
 abbrev pub has_no_variable : List ℤ → Bool
 has_no_variable coefs = list_all is_zero coefs
 
@@ -42,14 +43,14 @@ allows true constant = is_zero constant
 allows false constant = not (is_negative constant)
 
 -- the multipliers with which the constant of a row that does not hold is negative: of an equality it may be positive
-abbrev pub turned : ℤ → List ℤ → List ℤ
-turned constant multipliers = if is_positive constant then map neg_ℤ multipliers else multipliers
+abbrev pub refuting_multipliers : ℤ → List ℤ → List ℤ
+refuting_multipliers constant multipliers = if is_positive constant then map neg_ℤ multipliers else multipliers
 
 -- A row without variables is left out where it holds, and is a contradiction otherwise.
 abbrev pub judged : List Combination → Combination → Result (List Combination) EarlyEnd
 judged rows row =
     if allows row.row.equality row.row.constant then Ok rows
-    else Err (Contradiction (turned row.row.constant row.multipliers))
+    else Err (Contradiction (refuting_multipliers row.row.constant row.multipliers))
 
 -- ---- rows with variables
 
@@ -71,6 +72,7 @@ placed (earlier ∷ rows) row =
 abbrev pub added : List Combination → Combination → List Combination
 added rows row = if row.row.equality then rows ++ row ∷ [] else placed rows row
 
+-- The list is what is wanted, unless it has more rows than the cap allows.
 abbrev pub counted : ℕ → List Combination → Result (List Combination) EarlyEnd
 counted cap rows = if nat_le (length rows) cap then Ok rows else Err (AtLimit ManyRows)
 
@@ -90,9 +92,9 @@ admitted cap rows row = if is_wide (numbers_of row) then Err (AtLimit WideRow) e
 abbrev pub joined : ℕ → List Combination → Combination → Result (List Combination) EarlyEnd
 joined cap rows row = admitted cap rows (primitive row)
 
--- the list with these rows, in order, up to the first that stops it
+-- the list with these rows, in order, up to the first that ends it
 abbrev pub joined_each : ℕ → Result (List Combination) EarlyEnd → List Combination → Result (List Combination) EarlyEnd
-joined_each cap (Err stop) later = Err stop
+joined_each cap (Err early) later = Err early
 joined_each cap (Ok rows) [] = Ok rows
 joined_each cap (Ok rows) (row ∷ later) = joined_each cap (joined cap rows row) later
 

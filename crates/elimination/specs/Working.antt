@@ -5,7 +5,7 @@ use Rattle.elimination.specs.Combination.{Combination}
 use Rattle.elimination.specs.Joining.{numbers_of}
 
 -- All numbers of the row are below 2^56 in size.
-pub record IsNarrowCombination (row : Combination) : Type 0 where
+pub record IsFittingCombination (row : Combination) : Type 0 where
   pub constant : IsNarrow row.row.constant
   pub coefs : All IsNarrow row.row.coefs
   pub multipliers : All IsNarrow row.multipliers

@@ -19,8 +19,8 @@ pub enum Answer {
 pub enum Limit {
     /// A row that would join a list has an entry or a multiplier of 2^56 or more in size.
     WideRow,
-    /// There are too many rows, for one of two causes: more than 4,096 rows are given, or a list would have more rows
-    /// than the cap allows.
+    /// There are too many rows, for one of two causes: more than 4,096 rows are given, or a list
+    /// would have more rows than the cap allows.
     ManyRows,
     /// Memory ran out.
     Memory,
@@ -29,7 +29,8 @@ pub enum Limit {
 /// What ends an elimination before its last column.
 #[derive(Debug, Drop)]
 pub enum EarlyEnd {
-    /// A row without variables does not hold. With these multipliers the given rows add up to a negative number.
+    /// A row without variables does not hold. With these multipliers the given rows add up to a
+    /// negative number.
     Contradiction(Items<i128>),
     /// A limit was met.
     AtLimit(Limit),

@@ -11,7 +11,8 @@ use crate::joining::JoinedRows;
 use crate::multipliers::Weights;
 use std::alloc::{AllocError, Global};
 
-/// How often a row and the pivot are taken so that the column vanishes from their sum, by their entries in the column.
+/// How often a row and the pivot are taken so that the column vanishes from their sum, by their
+/// entries in the column.
 fn reducing_weights(pivot: &i128, entry: &i128) -> Weights
     requires pivot_narrow { IsNarrow pivot.now }
     requires entry_narrow { IsNarrow entry.now }
@@ -30,7 +31,8 @@ fn reducing_weights(pivot: &i128, entry: &i128) -> Weights
     }
 }
 
-/// How often a lower and an upper bound are taken so that the column vanishes from their sum, by their entries in it.
+/// How often a lower and an upper bound are taken so that the column vanishes from their sum, by
+/// their entries in it.
 fn pairing_weights(lower: &i128, upper: &i128) -> Weights
     requires lower_narrow { IsNarrow lower.now }
     requires upper_narrow { IsNarrow upper.now }
@@ -43,6 +45,7 @@ fn pairing_weights(lower: &i128, upper: &i128) -> Weights
     }
 }
 
+/// Whether the row is an equality that has the column.
 fn is_pivot(row: &Combination, j: usize) -> bool
     ensures { result ≡ is_pivot j row.now }
 {

@@ -1,13 +1,14 @@
-//! Rows with the multipliers that make them of the given rows: sums as they are made, and rows as lists hold them.
+//! Rows with the multipliers that make them of the given rows: sums as they are made, and rows as
+//! lists hold them.
 ghost use Rattle.std.specs.Prelude.{◌≡◌, ◌↔◌, ◌-◌, ◌<◌, ◌^◌, ◌<ℤ◌, ◌+ℤ◌, ◌*ℤ◌, pos, map, unsigned_abs, All, IfOk, IsTrue, int_lt, length, max, slice_index_or, None, Some, if◌then◌else◌};
 ghost use Rattle.std.specs.Int.{int_div_euclid};
 ghost use Rattle.lin_terms.specs.Divisor.{gcd_of, gcd_with};
 ghost use Rattle.lin_terms.specs.Row.{IsNarrow, IsNarrowRow};
 ghost use Rattle.lin_terms.specs.Vectors.{plus, scaled};
 ghost use Rattle.elimination.specs.Combination.{entry, is_zero, is_positive, is_negative, combined};
-ghost use Rattle.elimination.specs.Joining.{numbers_of, divided, primitive, is_wide, has_no_variable, allows, turned, is_parallel};
+ghost use Rattle.elimination.specs.Joining.{numbers_of, divided, primitive, is_wide, has_no_variable, allows, refuting_multipliers, is_parallel};
 ghost use Rattle.elimination.specs.Eliminated.{given_row};
-ghost use Rattle.elimination.specs.Working.{IsNarrowCombination, IsSmallCombination};
+ghost use Rattle.elimination.specs.Working.{IsFittingCombination, IsSmallCombination};
 
 use crate::multipliers::{Multipliers, Weights, product};
 use lin_terms::{Row, gcd};
@@ -15,8 +16,9 @@ use sqlite_items::Items;
 use std::alloc::{AllocError, Global};
 use std::marker::Model;
 
-/// A row as it is made: a sum of multiples of the given rows, with the multipliers that make it, one for each given row.
-/// The coefficients run over the columns. All numbers are far from the bounds of 128 bits.
+/// A row as it is made: a sum of multiples of the given rows, with the multipliers that make it,
+/// one for each given row. The coefficients run over the columns. All numbers are far from the
+/// bounds of 128 bits.
 #[derive(Debug, Drop)]
 pub struct Sum {
     coefs: Items<i128>,
@@ -33,10 +35,12 @@ impl Model for Sum {
 
     ghost view = { λ s. combination_of s.coefs s.constant s.equality s.multipliers };
 
-    ghost invariant = { λ s. IsSmallCombination (combination_of s.coefs s.constant s.equality s.multipliers) };
+    ghost invariant = { λ s.
+        IsSmallCombination (combination_of s.coefs s.constant s.equality s.multipliers) };
 }
 
-/// A row as lists hold it: a sum whose numbers are all below 2^56 in size, so that multiples of two such rows can be added.
+/// A row as lists hold it: a sum whose numbers are all below 2^56 in size, so that multiples of two
+/// such rows can be added.
 #[derive(Debug, Drop)]
 pub struct Combination {
     coefs: Items<i128>,
@@ -47,13 +51,14 @@ pub struct Combination {
 
 impl Model for Combination {
     ghost use Rattle.elimination.specs.Combination.{Combination, combination_of};
-    ghost use Rattle.elimination.specs.Working.{IsNarrowCombination};
+    ghost use Rattle.elimination.specs.Working.{IsFittingCombination};
 
     ghost Value = { Combination };
 
     ghost view = { λ c. combination_of c.coefs c.constant c.equality c.multipliers };
 
-    ghost invariant = { λ c. IsNarrowCombination (combination_of c.coefs c.constant c.equality c.multipliers) };
+    ghost invariant = { λ c.
+        IsFittingCombination (combination_of c.coefs c.constant c.equality c.multipliers) };
 }
 
 /// Whether the number is 0.
@@ -165,7 +170,8 @@ fn signed(divisor: u128) -> i128
 }
 
 impl Sum {
-    /// A given row, which `before` of the `count` given rows stand before: its own multiplier is 1, the others are 0.
+    /// A given row, which `before` of the `count` given rows stand before: its own multiplier is 1,
+    /// the others are 0.
     pub fn given(alloc: Global, row: &Row, before: u32, count: u32) -> Result<Sum, AllocError>
         requires inside { before < count }
         requires narrow { IsNarrowRow row.now }
@@ -221,7 +227,7 @@ impl Sum {
 
     /// Whether all its numbers are below 2^56 in size.
     fn is_narrow(&self) -> bool
-        ensures { IsTrue result ↔ IsNarrowCombination self.now }
+        ensures { IsTrue result ↔ IsFittingCombination self.now }
     {
         self.constant.unsigned_abs() < 1 << 56
             && are_narrow(self.coefs.as_slice())
@@ -330,8 +336,8 @@ impl Combination {
     }
 
     /// The multipliers with which the constant of a row that does not hold is negative.
-    pub fn turned(&self, alloc: Global) -> Result<Items<i128>, AllocError>
-        ensures { IfOk result (λ made. made ≡ turned self.now.row.constant self.now.multipliers) }
+    pub fn refuting_multipliers(&self, alloc: Global) -> Result<Items<i128>, AllocError>
+        ensures { IfOk result (λ made. made ≡ refuting_multipliers self.now.row.constant self.now.multipliers) }
     {
         if is_positive(&self.constant) {
             let negated = self.multipliers.list(alloc, &-1)?;

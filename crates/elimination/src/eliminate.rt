@@ -75,7 +75,8 @@ fn eliminate_columns(
 fn eliminate(alloc: Global, cap: u32, given: &[Row]) -> Result<(), EarlyEnd>
     requires many { length given.now ≤ 4096 }
     requires narrow { All IsNarrowRow given.now }
-    ensures { IsEnd (eliminate cap (columns_of given.now) 0 (list_of cap (initial 0 given.now))) result }
+    ensures { IsEnd (eliminate cap (columns_of given.now) 0 (list_of cap (initial 0 given.now)))
+        result }
 {
     let rows = list_of_given(alloc, cap, given)?;
     eliminate_columns(alloc, cap, columns_of(given), rows)
@@ -97,11 +98,13 @@ fn answer(alloc: Global, rows: &[Row], cap: u32) -> Result<Answer, Limit>
     }
 }
 
-/// Whether some multipliers refute the rows (Farkas' lemma), by elimination of all columns. The rows have one length,
-/// and entries below 2^56 in size. No list that is made has more than `cap` rows; any cap may be given.
+/// Whether some multipliers refute the rows (Farkas' lemma), by elimination of all columns. The
+/// rows have one length, and entries below 2^56 in size. No list that is made has more than `cap`
+/// rows; any cap may be given.
 ///
-/// Example: the multipliers 1 and 1 refute `x - 1 >= 0` and `-x >= 0`, and with a cap of 1 the answer is the limit
-/// `ManyRows`. `2x - 1 >= 0` and `1 - 2x >= 0` are not refutable, since 1/2 meets both.
+/// Example: the multipliers 1 and 1 refute `x - 1 >= 0` and `-x >= 0`, and with a cap of 1 the
+/// answer is the limit `ManyRows`. `2x - 1 >= 0` and `1 - 2x >= 0` are not refutable, since 1/2
+/// meets both.
 pub fn decide(alloc: Global, rows: &[Row], cap: u32) -> Result<Answer, Limit>
     requires one_length { HaveOneLength rows.now }
     requires narrow { All IsNarrowRow rows.now }

@@ -62,7 +62,8 @@ impl JoinedRows {
 
     /// A row with variables goes to its place, unless the list grows longer than the cap.
     fn add(&mut self, row: Combination) -> Result<(), EarlyEnd>
-        ensures { Leaves self.old (counted self.old.cap (added self.old.rows.items row)) self.new result }
+        ensures { Leaves self.old (counted self.old.cap (added self.old.rows.items row))
+            self.new result }
     {
         if row.is_equality() {
             self.rows.push(row).map_err(AllocError::from)?;
@@ -85,11 +86,12 @@ impl JoinedRows {
         if row.allows() {
             return Ok(());
         }
-        let multipliers = row.turned(self.alloc)?;
+        let multipliers = row.refuting_multipliers(self.alloc)?;
         Err(EarlyEnd::Contradiction(multipliers))
     }
 
-    /// A row joins the list, over the greatest common divisor of its numbers, or ends the elimination.
+    /// A row joins the list, over the greatest common divisor of its numbers, or ends the
+    /// elimination.
     pub fn join(&mut self, row: Sum) -> Result<(), EarlyEnd>
         ensures { Joins self.old (row ∷ []) self.new result }
     {

@@ -1,7 +1,8 @@
 //! Laws of the definitions alone. Each is the contract of a call that does nothing.
 ghost use Rattle.elimination.specs.Laws.{LawOfLimits, LawOfPoints, LawOfRefutability, LawOfRefutations};
 
-/// The multipliers that an elimination answers refute the given rows, and they are below 2^56 in size.
+/// The multipliers that an elimination answers refute the given rows, and they are below 2^56 in
+/// size.
 pub fn law_of_refutations()
     ensures { LawOfRefutations }
 {}
@@ -11,7 +12,8 @@ pub fn law_of_points()
     ensures { LawOfPoints }
 {}
 
-/// Where an elimination meets no limit, it answers multipliers exactly where some refute the rows. They may be of any size.
+/// Where an elimination meets no limit, it answers multipliers exactly where some refute the rows.
+/// They may be of any size.
 pub fn law_of_refutability()
     ensures { LawOfRefutability }
 {}

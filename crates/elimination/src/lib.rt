@@ -1,20 +1,32 @@
-//! Decides whether linear rows over whole numbers have multipliers that refute them (Farkas' lemma), by elimination.
+//! Decides whether linear rows over whole numbers have multipliers that refute them (Farkas'
+//! lemma), by elimination.
 //!
-//! Rows and a cap go in; an answer comes out, or the limit that was met. One column after the other is eliminated
-//! (Fourier 1826, Motzkin 1936): by an equality that has it, or else by adding each lower bound of its variable to each
-//! upper bound. A row and the multipliers that make it of the given rows are one value. So a row that cannot hold comes
-//! with the multipliers that refute the given rows, and where no such row comes up the given rows have a point.
-//! `specs/Eliminated.antt` is the whole method, and `decide` answers exactly as it says. `specs/Laws.antt` says why the
-//! answers may be believed. Of the multipliers of a row only those that are not 0 are kept, since these are few.
+//! Rows and a cap go in; an answer comes out, or the limit that was met. One column after the other
+//! is eliminated (Fourier 1826, Motzkin 1936): by an equality that has it, or else by adding each
+//! lower bound of its variable to each upper bound. A row and the multipliers that make it of the
+//! given rows are one value. So a row that cannot hold comes with the multipliers that refute the
+//! given rows, and where no such row comes up the given rows have a point. `specs/Eliminated.antt`
+//! is the whole method, and `decide` answers exactly as it says. `specs/Laws.antt` says why the
+//! answers may be believed. Of the multipliers of a row only those that are not 0 are kept, since
+//! these are few.
 #![tactic(auto)]
 
+// What is answered, and what ends an elimination early.
 mod answer;
-mod column;
-mod combination;
-mod eliminate;
-mod joining;
-mod laws;
+
+// Rows with the multipliers that make them, from the multipliers up.
 mod multipliers;
+
+mod combination;
+
+// A list that rows join, the elimination of one column, and of all.
+mod joining;
+
+mod column;
+
+mod eliminate;
+
+mod laws;
 #[cfg(test)]
 mod tests;
 

@@ -61,6 +61,7 @@ pub fn product(x: &i128, y: &i128) -> i128
     *x * *y
 }
 
+/// The number of the first row, and `count` where there is none.
 fn first_row(entries: &[Multiplier], count: u32) -> u32
     ensures { result ≡ first_row count entries.now }
 {
@@ -83,6 +84,7 @@ fn front_product(times: &i128, entries: &[Multiplier], row: u32) -> i128
     }
 }
 
+/// The list behind the multiplier of the row, where that stands in front.
 fn behind_row(entries: &[Multiplier], row: u32) -> &[Multiplier]
     ensures { result.now ≡ behind_row row entries.now }
 {
@@ -92,11 +94,13 @@ fn behind_row(entries: &[Multiplier], row: u32) -> &[Multiplier]
     }
 }
 
-/// What the sum of two lists, each taken so often as its weight says, has for a row that stands in front or in neither.
+/// What the sum of two lists, each taken so often as its weight says, has for a row that stands in
+/// front or in neither.
 fn front_sum(weights: &Weights, ps: &[Multiplier], qs: &[Multiplier], row: u32) -> i128
     requires ps_narrow { All (λ entry. IsNarrow entry.value) ps.now }
     requires qs_narrow { All (λ entry. IsNarrow entry.value) qs.now }
-    ensures { result ≡ (weights.now.first *ℤ front_of row ps.now) +ℤ (weights.now.second *ℤ front_of row qs.now) }
+    ensures { result ≡ (weights.now.first *ℤ front_of row ps.now)
+        +ℤ (weights.now.second *ℤ front_of row qs.now) }
 {
     front_product(&weights.first, ps, row) + front_product(&weights.second, qs, row)
 }
@@ -139,6 +143,7 @@ fn sum_of_entries(
     Ok(made)
 }
 
+/// Whether each multiplier is below 2^56 in size.
 fn are_narrow_entries(entries: &[Multiplier]) -> bool
     ensures { IsTrue result ↔ All (λ entry. IsNarrow entry.value) entries.now }
 {
@@ -147,6 +152,7 @@ fn are_narrow_entries(entries: &[Multiplier]) -> bool
         .all(|entry| entry.value.unsigned_abs() < 1 << 56)
 }
 
+/// A multiplier over a divisor, rounded down.
 fn quotient(entry: &Multiplier, divisor: &i128) -> Multiplier
     requires { pos 0 <ℤ divisor.now }
     ensures { result ≡ quotient_of divisor.now entry.now }
@@ -157,6 +163,7 @@ fn quotient(entry: &Multiplier, divisor: &i128) -> Multiplier
     }
 }
 
+/// All multipliers over a divisor, rounded down.
 fn quotients(
     alloc: Global,
     entries: &[Multiplier],
@@ -172,6 +179,7 @@ fn quotients(
     Ok(made)
 }
 
+/// A greatest common divisor, carried on through the multipliers.
 fn gcd_of_entries(start: u128, entries: &[Multiplier]) -> u128
     ensures { result ≡ gcd_with start (map (λ entry. entry.value) entries.now) }
 {
@@ -212,7 +220,8 @@ fn push_product(
 ) -> Result<(), AllocError>
     requires times_narrow { IsNarrow times.now }
     requires narrow { All (λ entry. IsNarrow entry.value) left.now }
-    ensures { OnOk result (made.new.items ≡ made.old.items ++ (times.now *ℤ front_of row left.now) ∷ []) }
+    ensures { OnOk result (made.new.items
+        ≡ made.old.items ++ (times.now *ℤ front_of row left.now) ∷ []) }
 {
     made.push(front_product(times, left, row))?;
     Ok(())
@@ -222,7 +231,8 @@ impl Multipliers {
     /// The multiplier 1 for a row, and 0 for the `count - 1` others.
     pub fn unit(alloc: Global, row: u32, count: u32) -> Result<Multipliers, AllocError>
         requires { row < count }
-        ensures { IfOk result (λ made. made ≡ replicate row (pos 0) ++ pos 1 ∷ replicate (count - row - 1) (pos 0)) }
+        ensures { IfOk result (λ made. made
+            ≡ replicate row (pos 0) ++ pos 1 ∷ replicate (count - row - 1) (pos 0)) }
     {
         let mut entries = Items::new(alloc);
         entries.push(Multiplier { row, value: 1 })?;
@@ -238,7 +248,8 @@ impl Multipliers {
     ) -> Result<Multipliers, AllocError>
         requires first_narrow { All IsNarrow first.now }
         requires second_narrow { All IsNarrow second.now }
-        ensures { IfOk result (λ made. made ≡ plus (scaled weights.now.first first.now) (scaled weights.now.second second.now)) }
+        ensures { IfOk result (λ made. made
+            ≡ plus (scaled weights.now.first first.now) (scaled weights.now.second second.now)) }
     {
         let count = first.count.max(second.count);
         let entries = sum_of_entries(
@@ -275,7 +286,8 @@ impl Multipliers {
 
     /// A greatest common divisor of some numbers, carried on through the multipliers.
     pub fn gcd_with(&self, start: u128) -> u128
-        ensures { (numbers : List ℤ) → start ≡ gcd_of numbers → result ≡ gcd_of (numbers ++ self.now) }
+        ensures { (numbers : List ℤ) → start ≡ gcd_of numbers
+            → result ≡ gcd_of (numbers ++ self.now) }
     {
         gcd_of_entries(start, self.entries.as_slice())
     }

@@ -1,5 +1,5 @@
 use Rattle.std.proofs.Common.{refl}
-use Rattle.farkas_check.proofs.Wide.{product_back, unsigned_abs-product}
+use Rattle.elimination.proofs.Wide.{product_back, unsigned_abs-product}
 use Rattle.elimination.proofs.multipliers.product.Goals as goal
 
 pub returns-clause-value : goal.returns-clause-value
