@@ -17,7 +17,8 @@ use Rattle.elimination.specs.Eliminated.{initial, eliminate, answer_of, eliminat
 use Rattle.elimination.specs.Laws.{IsRefuted}
 use Rattle.elimination.proofs.Keeping.{Holding}
 use Rattle.elimination.proofs.Deciding.{has_point}
-use Rattle.elimination.proofs.Making.{IsMade, all_made}
+use Rattle.elimination.specs.Made.{IsMade}
+use Rattle.elimination.proofs.Making.{all_made}
 use Rattle.elimination.proofs.Lists.{Anything}
 use Rattle.elimination.proofs.Narrowness.{AreNarrow, all_narrow}
 
@@ -41,7 +42,7 @@ few_hold P R false rows cap multipliers holds e = cc
 pub refuted_refutes : (rows : List Row) (cap : ℕ) (multipliers : List ℤ) → eliminated rows cap ≡ Ok (Refuted multipliers)
     → Refutes rows multipliers × All IsNarrow multipliers
 refuted_refutes rows cap multipliers e = (
-  few_hold (IsMade rows) (Refutes rows) (nat_le (length rows) 4096) rows cap multipliers (all_made rows cap) e,
+  few_hold (IsMade rows) (Refutes rows) (nat_le (length rows) 4096) rows cap multipliers (all_made rows cap (columns_of rows)) e,
   All-from_recursion IsNarrow multipliers (few_hold Anything AreNarrow (nat_le (length rows) 4096) rows cap multipliers (all_narrow rows cap) e),
 )
 
@@ -52,7 +53,8 @@ not_refutable rows cap one_length e refutable =
     let point = has_point rows cap one_length e in
     no_point rows refutable.multipliers refutable.refutes point.numbers point.denominator point.positive point.meets
 
-pub exactly_refutable : (rows : List Row) (cap : ℕ) (answer : Answer) → HaveOneLength rows → eliminated rows cap ≡ Ok answer → IsRefuted answer ↔ IsRefutable rows
+pub exactly_refutable : (rows : List Row) (cap : ℕ) (answer : Answer) → HaveOneLength rows → eliminated rows cap ≡ Ok answer
+    → IsRefuted answer ↔ IsRefutable rows
 exactly_refutable rows cap (Refuted multipliers) one_length e =
     (λ refuted. record { multipliers = multipliers; refutes = (refuted_refutes rows cap multipliers e).0 }, λ refutable. tt)
 exactly_refutable rows cap NotRefutable one_length e = (λ refuted. absurd refuted, λ refutable. not_refutable rows cap one_length e refutable)

@@ -66,11 +66,13 @@ reduced_gone n j pivot row pivot_gone row_gone =
 
 gone_steps : (n j : ℕ) → Steps j (IsLeft n j) (HasGone n (suc j))
 gone_steps n j = record {
-  flat = λ row zero stays i gone. ⊎_elim (λ is. subst (λ t. entry t row ≡ pos 0) (sym is) (zero_is (entry j row) zero)) (λ before. stays.0 i before) (gone_step n j i gone);
+  flat = λ row zero stays i gone. ⊎_elim (λ is. subst (λ t. entry t row ≡ pos 0) (sym is) (zero_is (entry j row) zero)) (λ before. stays.0 i before)
+      (gone_step n j i gone);
   reduce = λ pivot row equality has_pivot has. reduced_gone n j pivot row has_pivot.0 has.0;
   pair = λ lower upper is_lower is_upper has_lower has_upper.
       combined_gone n j (size (entry j upper)) lower (entry j lower) upper
-      (ap (λ t. (t *ℤ entry j lower) +ℤ (entry j lower *ℤ entry j upper)) (size_of_negative (entry j upper) is_upper.0) ∙ paired_zero (entry j lower) (entry j upper))
+      (ap (λ t. (t *ℤ entry j lower) +ℤ (entry j lower *ℤ entry j upper)) (size_of_negative (entry j upper) is_upper.0)
+      ∙ paired_zero (entry j lower) (entry j upper))
       has_lower.0 has_upper.0;
 }
 
@@ -153,7 +155,8 @@ answered_point : (cap n : ℕ) (rows : List Row) (ended : Result (List Combinati
 answered_point cap n rows (Err (Contradiction multipliers)) is e lengths = cc
 answered_point cap n rows (Err (AtLimit limit)) is e lengths = cc
 answered_point cap n rows (Ok out) is e lengths =
-    first_point cap n rows (list_of cap (initial 0 rows)) out refl (new_list_holds (HasGone n 0) (IsLeft n 0) Anything (gone_joins n 0) cap (initial 0 rows) (initial_gone n 0 rows lengths)) is
+    first_point cap n rows (list_of cap (initial 0 rows)) out refl
+    (new_list_holds (HasGone n 0) (IsLeft n 0) Anything (gone_joins n 0) cap (initial 0 rows) (initial_gone n 0 rows lengths)) is
 
 few_point : (test : Bool) (rows : List Row) (cap : ℕ)
     → cond test (answer_of (eliminate cap (columns_of rows) 0 (list_of cap (initial 0 rows)))) (Err ManyRows) ≡ Ok NotRefutable

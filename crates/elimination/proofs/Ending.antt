@@ -39,7 +39,8 @@ small_given before behind row narrow = small_combination (given_row before behin
 
 -- the next given row, and then the later ones
 pub given_joins : (cap i : ℕ) (given : List Row) (row : Row) (made : Combination) (rows : List Combination) (target : Result (List Combination) EarlyEnd)
-    → i < length given → row ≡ get_or given i row → made ≡ given_row i (length given - i - 1) row → joined_each cap (Ok rows) (initial i (drop i given)) ≡ target
+    → i < length given → row ≡ get_or given i row → made ≡ given_row i (length given - i - 1) row
+    → joined_each cap (Ok rows) (initial i (drop i given)) ≡ target
     → joined_each cap (joined_each cap (Ok rows) (made ∷ [])) (initial (i + 1) (drop (i + 1) given)) ≡ target
 given_joins cap i given row made rows target inside is made_is so_far =
     let later : List Row = drop (i + 1) given in

@@ -30,7 +30,8 @@ pub gcd-table : (numbers : List ℤ) (count : ℕ) (entries : List Multiplier) �
 gcd-table numbers count entries rising =
     same_gcd (numbers ++ values entries) (numbers ++ table 0 count entries)
     (λ d divides. all_append (Divides d) numbers (table 0 count entries) (all_front (Divides d) numbers (values entries) divides)
-    (table_has (Divides d) count entries (dvd-zero d) rising (all_of_map (Divides d) (λ (entry : Multiplier). entry.value) entries (all_back (Divides d) numbers (values entries) divides))))
+    (table_has (Divides d) count entries (dvd-zero d) rising
+    (all_of_map (Divides d) (λ (entry : Multiplier). entry.value) entries (all_back (Divides d) numbers (values entries) divides))))
     (λ d divides. all_append (Divides d) numbers (values entries) (all_front (Divides d) numbers (table 0 count entries) divides)
     (all_map (λ (entry : Multiplier). Divides d entry.value) (Divides d) (λ (entry : Multiplier). entry.value) (λ entry has. has) entries
     (entries_have (Divides d) count entries rising (all_back (Divides d) numbers (table 0 count entries) divides))))

@@ -154,4 +154,5 @@ module _ (P : Combination → Type 0) (R : List ℤ → Type 0) (joins : (row : 
   eliminate_holds cap zero j rows holds = holds
   eliminate_holds cap (suc left) j (Err stop) holds = holds
   eliminate_holds cap (suc left) j (Ok rows) holds =
-      eliminate_holds cap left (suc j) (list_of cap (projected j rows)) (new_list_holds P P R joins cap (projected j rows) (projected_has j P P (steps j) rows holds))
+      eliminate_holds cap left (suc j) (list_of cap (projected j rows))
+      (new_list_holds P P R joins cap (projected j rows) (projected_has j P P (steps j) rows holds))

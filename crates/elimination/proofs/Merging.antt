@@ -92,7 +92,8 @@ from_first from count (entry ∷ entries) rising = rising.0
 abbrev pub next_row : ℕ → List Multiplier → List Multiplier → ℕ
 next_row count ps qs = min (first_row count ps) (first_row count qs)
 
-pub next_below : (from count : ℕ) (ps qs : List Multiplier) → IsRising from count ps → IsRising from count qs → (ps ≢ []) ⊎ (qs ≢ []) → next_row count ps qs < count
+pub next_below : (from count : ℕ) (ps qs : List Multiplier) → IsRising from count ps → IsRising from count qs → (ps ≢ []) ⊎ (qs ≢ [])
+    → next_row count ps qs < count
 next_below from count [] [] ps_rising qs_rising (inl some) = absurd (some refl)
 next_below from count [] [] ps_rising qs_rising (inr some) = absurd (some refl)
 next_below from count [] (q ∷ qs) ps_rising qs_rising some =

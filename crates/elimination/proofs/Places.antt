@@ -40,7 +40,8 @@ placed_later : (row : Combination) (place : ℕ) (earlier : Combination) (rows :
 placed_later row place earlier rows fails later = rw fails (ap (λ t. earlier ∷ t) later)
 
 -- the earlier row that stands there
-placed_at : (rows : List Combination) (row earlier : Combination) (place : Option ℕ) (at : ℕ) → place ≡ position (λ earlier. is_parallel earlier row) rows → place ≡ Some at
+placed_at : (rows : List Combination) (row earlier : Combination) (place : Option ℕ) (at : ℕ) → place ≡ position (λ earlier. is_parallel earlier row) rows
+    → place ≡ Some at
     → earlier ≡ get_or rows at earlier → (placed rows row ≡ set rows at (tighter earlier row)) × (earlier ≡ get_or rows at row)
 placed_at rows row earlier place at is some there =
     let here = sym is ∙ some in
@@ -61,8 +62,11 @@ placed_instead rows row earlier place at false is some there less =
 -- ---- narrow rows
 
 numbers_narrow : (row : Combination) → IsFittingCombination row → AllByRecursion IsNarrow (numbers_of row)
-numbers_narrow row narrow =
-    (narrow.constant, all_append IsNarrow row.row.coefs row.multipliers (recursion_from_All IsNarrow row.row.coefs narrow.coefs) (recursion_from_All IsNarrow row.multipliers narrow.multipliers))
+numbers_narrow row narrow = (
+  narrow.constant,
+  all_append IsNarrow row.row.coefs row.multipliers (recursion_from_All IsNarrow row.row.coefs narrow.coefs)
+      (recursion_from_All IsNarrow row.multipliers narrow.multipliers),
+)
 
 pub narrow_combination : (row : Combination) → is_wide (numbers_of row) ≡ false → IsFittingCombination row
 narrow_combination row e =
@@ -111,4 +115,5 @@ joined_wide cap rows raw row is wide = ap (admitted cap rows) (sym is) ∙ cond-
 
 pub joined_kept : (cap : ℕ) (rows : List Combination) (raw row : Combination) → row ≡ primitive raw → is_wide (numbers_of row) ≡ false
     → joined cap rows raw ≡ kept cap rows row
-joined_kept cap rows raw row is narrow = ap (admitted cap rows) (sym is) ∙ cond-false (is_wide (numbers_of row)) (Err (AtLimit WideRow)) (kept cap rows row) narrow
+joined_kept cap rows raw row is narrow = ap (admitted cap rows) (sym is)
+    ∙ cond-false (is_wide (numbers_of row)) (Err (AtLimit WideRow)) (kept cap rows row) narrow

@@ -53,7 +53,8 @@ pub value-moved : (coefs : List ℤ) (c : ℤ) (numbers : List ℤ) (d k y : ℤ
 value-moved coefs c numbers d k y j inside =
     let a : ℤ = get_or coefs j (pos 0) in
     let x : ℤ = get_or numbers j (pos 0) in
-    let replaced = rw (get_or-scaled k numbers j, dot-scaled_right k coefs numbers) at (dot-set coefs (scaled k numbers) j y (rw (length-scaled k numbers) inside)) in
+    let replaced = rw (get_or-scaled k numbers j, dot-scaled_right k coefs numbers) at
+    (dot-set coefs (scaled k numbers) j y (rw (length-scaled k numbers) inside)) in
     moved_first (dot coefs (set (scaled k numbers) j y)) (a *ℤ (k *ℤ x)) c k d
     ∙ ap (λ t. (t -ℤ (a *ℤ (k *ℤ x))) +ℤ (c *ℤ (k *ℤ d))) replaced
     ∙ moved_last (dot coefs numbers) a x y k c d

@@ -39,7 +39,8 @@ constant_allowed false (negsuc n) d not_negative e = cc
 left_out : (numbers : List ℤ) (d : ℤ) (row : Combination) → pos 0 ≤ℤ d → has_no_variable row.row.coefs ≡ true
     → allows row.row.equality row.row.constant ≡ true → Meets numbers d row.row
 left_out numbers d row not_negative no_variable allowed =
-    rw (dot-zeros row.row.coefs numbers (zero_entries is_zero zero_is row.row.coefs no_variable)) (constant_allowed row.row.equality row.row.constant d not_negative allowed)
+    rw (dot-zeros row.row.coefs numbers (zero_entries is_zero zero_is row.row.coefs no_variable))
+    (constant_allowed row.row.equality row.row.constant d not_negative allowed)
 
 -- ---- parallel rows
 
@@ -64,7 +65,8 @@ module _ (numbers : List ℤ) (d : ℤ) (not_negative : pos 0 ≤ℤ d) where
   parallel_met : (p q : Combination) → p.row.equality ≡ false → q.row.equality ≡ false → p.row.coefs ≡ q.row.coefs
       → p.row.constant ≤ℤ q.row.constant → Met p → Met q
   parallel_met p q p_inequality q_inequality coefs below met =
-      let holds : pos 0 ≤ℤ (dot p.row.coefs numbers +ℤ (p.row.constant *ℤ d)) = subst (λ b. Allows b (dot p.row.coefs numbers +ℤ (p.row.constant *ℤ d))) p_inequality met in
+      let holds : pos 0 ≤ℤ (dot p.row.coefs numbers +ℤ (p.row.constant *ℤ d)) = subst
+      (λ b. Allows b (dot p.row.coefs numbers +ℤ (p.row.constant *ℤ d))) p_inequality met in
       rw (q_inequality, ← coefs) (less_constant (dot p.row.coefs numbers) p.row.constant q.row.constant d not_negative below holds)
 
   -- of parallel rows the one that stays implies the other
@@ -79,26 +81,33 @@ module _ (numbers : List ℤ) (d : ℤ) (not_negative : pos 0 ≤ℤ d) where
       let below : earlier.row.constant ≤ℤ row.row.constant = omega (arith, ints) in
       (met, parallel_met earlier row (not-true earlier.row.equality both.0) inequality (same_coefs earlier.row.coefs row.row.coefs both.1) below met)
 
-  placed_back : (rows : List Combination) (row : Combination) → row.row.equality ≡ false → AllByRecursion Met (placed rows row) → AllByRecursion Met rows × Met row
+  placed_back : (rows : List Combination) (row : Combination) → row.row.equality ≡ false → AllByRecursion Met (placed rows row)
+      → AllByRecursion Met rows × Met row
   placed_back [] row inequality met = (tt, met.0)
   placed_back (earlier ∷ rows) row inequality met =
-      cond_both (is_parallel earlier row) (tighter earlier row ∷ rows) (earlier ∷ placed rows row) (λ rs. AllByRecursion Met rs → AllByRecursion Met (earlier ∷ rows) × Met row)
-      (λ parallel met_here. let both = tighter_step (int_lt row.row.constant earlier.row.constant) earlier row refl inequality parallel met_here.0 in ((both.0, met_here.1), both.1))
+      cond_both (is_parallel earlier row) (tighter earlier row ∷ rows) (earlier ∷ placed rows row)
+      (λ rs. AllByRecursion Met rs → AllByRecursion Met (earlier ∷ rows) × Met row)
+      (λ parallel met_here. let both = tighter_step (int_lt row.row.constant earlier.row.constant) earlier row refl inequality parallel met_here.0 in
+      ((both.0, met_here.1), both.1))
       (λ other met_here. let both = placed_back rows row inequality met_here.1 in ((met_here.0, both.0), both.1)) met
 
   added_back : (rows : List Combination) (row : Combination) → AllByRecursion Met (added rows row) → AllByRecursion Met rows × Met row
   added_back rows row met =
       cond_both row.row.equality (rows ++ row ∷ []) (placed rows row) (λ rs. AllByRecursion Met rs → AllByRecursion Met rows × Met row)
-      (λ equality met_here. (all_front Met rows (row ∷ []) met_here, (all_back Met rows (row ∷ []) met_here).0)) (λ inequality met_here. placed_back rows row inequality met_here) met
+      (λ equality met_here. (all_front Met rows (row ∷ []) met_here, (all_back Met rows (row ∷ []) met_here).0))
+      (λ inequality met_here. placed_back rows row inequality met_here) met
 
   -- where the list is made, what meets it meets the rows before and the row that joins
   abbrev IsMetBefore : List Combination → Combination → List Combination → Result (List Combination) EarlyEnd → Type 0
   IsMetBefore rows row out made = made ≡ Ok out → AllByRecursion Met out → AllByRecursion Met rows × Met row
 
-  judged_back : (rows : List Combination) (row : Combination) (out : List Combination) → has_no_variable row.row.coefs ≡ true → IsMetBefore rows row out (judged rows row)
+  judged_back : (rows : List Combination) (row : Combination) (out : List Combination) → has_no_variable row.row.coefs ≡ true
+      → IsMetBefore rows row out (judged rows row)
   judged_back rows row out no_variable =
-      cond_both (allows row.row.equality row.row.constant) (Ok rows) (Err (Contradiction (refuting_multipliers row.row.constant row.multipliers))) (IsMetBefore rows row out)
-      (λ allowed e met. (subst (AllByRecursion Met) (sym (ok_same rows out e)) met, left_out numbers d row not_negative no_variable allowed)) (λ fails e met. cc)
+      cond_both (allows row.row.equality row.row.constant) (Ok rows) (Err (Contradiction (refuting_multipliers row.row.constant row.multipliers)))
+      (IsMetBefore rows row out)
+      (λ allowed e met. (subst (AllByRecursion Met) (sym (ok_same rows out e)) met, left_out numbers d row not_negative no_variable allowed))
+      (λ fails e met. cc)
 
   counted_back : (cap : ℕ) (rows : List Combination) (row : Combination) (out : List Combination) → IsMetBefore rows row out (counted cap (added rows row))
   counted_back cap rows row out =

@@ -41,8 +41,10 @@ small_combined k p l q k_narrow l_narrow p_narrow q_narrow =
     All-from_recursion IsSmall (numbers_of (combined k p l q)) (
       small_sum k p.row.constant l q.row.constant k_narrow p_narrow.constant l_narrow q_narrow.constant,
       all_append IsSmall coefs multipliers
-          (small_sums k p.row.coefs l q.row.coefs k_narrow l_narrow (recursion_from_All IsNarrow p.row.coefs p_narrow.coefs) (recursion_from_All IsNarrow q.row.coefs q_narrow.coefs))
-          (small_sums k p.multipliers l q.multipliers k_narrow l_narrow (recursion_from_All IsNarrow p.multipliers p_narrow.multipliers) (recursion_from_All IsNarrow q.multipliers q_narrow.multipliers)),
+          (small_sums k p.row.coefs l q.row.coefs k_narrow l_narrow (recursion_from_All IsNarrow p.row.coefs p_narrow.coefs)
+          (recursion_from_All IsNarrow q.row.coefs q_narrow.coefs))
+          (small_sums k p.multipliers l q.multipliers k_narrow l_narrow (recursion_from_All IsNarrow p.multipliers p_narrow.multipliers)
+          (recursion_from_All IsNarrow q.multipliers q_narrow.multipliers)),
     )
 
 pub small_combination : (row : Combination) → IsFittingCombination row → IsSmallCombination row

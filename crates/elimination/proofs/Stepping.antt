@@ -59,7 +59,8 @@ module _ (old mid : JoinedRows) (xs : List Combination) (so_far : Joins old xs m
   joins_more ys new more = (sym (joined_behind ys) ∙ more.0, more.1 ∙ so_far.1)
 
   -- where the rows that come next end the list early, later ones do not matter
-  pub ends_then : (ys zs all : List Combination) (new : JoinedRows) (early : EarlyEnd) → all ≡ (xs ++ ys) ++ zs → Joins mid ys new (Err early) → Joins old all new (Err early)
+  pub ends_then : (ys zs all : List Combination) (new : JoinedRows) (early : EarlyEnd) → all ≡ (xs ++ ys) ++ zs → Joins mid ys new (Err early)
+      → Joins old all new (Err early)
   ends_then ys zs all new early is ends =
       ends_first (λ before. joined_each old.cap before zs) (λ e. ended_each old.cap e zs) (joined_each mid.cap (Ok mid.rows.items) ys)
       (joined_each old.cap (Ok old.rows.items) all) early
@@ -81,7 +82,8 @@ module _ {X : Type 0} (given : List X → List Combination) (behind : (xs ys : L
   pub walk_more : (old mid new : JoinedRows) (xs : List X) (x : X) → Joins old (given xs) mid (Ok tt) → Joins mid (given (x ∷ [])) new (Ok tt)
       → Joins old (given (xs ++ x ∷ [])) new (Ok tt)
   walk_more old mid new xs x so_far more =
-      subst (λ (rows : List Combination). Joins old rows new (Ok tt)) (sym (behind xs (x ∷ []))) (joins_more old mid (given xs) so_far (given (x ∷ [])) new more)
+      subst (λ (rows : List Combination). Joins old rows new (Ok tt)) (sym (behind xs (x ∷ [])))
+      (joins_more old mid (given xs) so_far (given (x ∷ [])) new more)
 
   pub walk_ends : (old mid new : JoinedRows) (xs zs all : List X) (x : X) (early : EarlyEnd) → all ≡ (xs ++ x ∷ []) ++ zs → Joins old (given xs) mid (Ok tt)
       → Joins mid (given (x ∷ [])) new (Err early) → Joins old (given all) new (Err early)

@@ -53,7 +53,8 @@ module _ (P : ℤ → Type 0) where
   rows_of_table first (suc count) entries all row from below =
       row_case (eqb first row) first row entries refl all.0 (λ after. rows_of_table (suc first) count entries all.1 row after (omega arith)) from
 
-  entries_of_rows : (low high : ℕ) (entries : List Multiplier) → IsRising low high entries → ((row : ℕ) → low ≤ row → row < high → P (at entries row)) → EntriesHave entries
+  entries_of_rows : (low high : ℕ) (entries : List Multiplier) → IsRising low high entries → ((row : ℕ) → low ≤ row → row < high → P (at entries row))
+      → EntriesHave entries
   entries_of_rows low high [] rising rows = tt
   entries_of_rows low high (entry ∷ entries) rising rows =
       let bound = rising_bounds (suc entry.row) high entries rising.1 in (
@@ -66,7 +67,8 @@ module _ (P : ℤ → Type 0) where
   entries_have count entries rising all =
       entries_of_rows 0 count entries rising (λ row from below. rows_of_table 0 count entries all row from (omega arith))
 
-  entry_case : (test : Bool) (low high row : ℕ) (entry : Multiplier) (entries : List Multiplier) → eqb entry.row row ≡ test → IsRising low high (entry ∷ entries)
+  entry_case : (test : Bool) (low high row : ℕ) (entry : Multiplier) (entries : List Multiplier) → eqb entry.row row ≡ test
+      → IsRising low high (entry ∷ entries)
       → P entry.value → P (at entries row) → P (at (entry ∷ entries) row)
   entry_case true low high row entry entries is rising here later =
       let same : entry.row ≡ row = grind (arith, nat_tests) in
@@ -78,12 +80,14 @@ module _ (P : ℤ → Type 0) where
   at_has low high row (entry ∷ entries) is_zero rising all =
       entry_case (eqb entry.row row) low high row entry entries refl rising all.0 (at_has (suc entry.row) high row entries is_zero rising.1 all.1)
 
-  table_of : (low high first count : ℕ) (entries : List Multiplier) → P (pos 0) → IsRising low high entries → EntriesHave entries → AllByRecursion P (table first count entries)
+  table_of : (low high first count : ℕ) (entries : List Multiplier) → P (pos 0) → IsRising low high entries → EntriesHave entries
+      → AllByRecursion P (table first count entries)
   table_of low high first zero entries is_zero rising all = tt
   table_of low high first (suc count) entries is_zero rising all =
       (at_has low high first entries is_zero rising all, table_of low high (suc first) count entries is_zero rising all)
 
-  pub table_has : (count : ℕ) (entries : List Multiplier) → P (pos 0) → IsRising 0 count entries → EntriesHave entries → AllByRecursion P (table 0 count entries)
+  pub table_has : (count : ℕ) (entries : List Multiplier) → P (pos 0) → IsRising 0 count entries → EntriesHave entries
+      → AllByRecursion P (table 0 count entries)
   table_has count entries is_zero rising all = table_of 0 count 0 count entries is_zero rising all
 
 -- ---- quotients
@@ -104,7 +108,8 @@ module _ (divisor : ℤ) (positive : pos 0 <ℤ divisor) where
       rw (others refl, int_zero divisor positive, plus_zero value) (plus_zero (int_div_euclid value divisor))
   quotient_case false value sum others = rw (zero_plus sum) (zero_plus (int_div_euclid sum divisor))
 
-  at-quotients : (low high row : ℕ) (entries : List Multiplier) → IsRising low high entries → at (quotients_of divisor entries) row ≡ int_div_euclid (at entries row) divisor
+  at-quotients : (low high row : ℕ) (entries : List Multiplier) → IsRising low high entries
+      → at (quotients_of divisor entries) row ≡ int_div_euclid (at entries row) divisor
   at-quotients low high row [] rising = sym (int_zero divisor positive)
   at-quotients low high row (entry ∷ entries) rising =
       ap (λ t. cond (eqb entry.row row) (int_div_euclid entry.value divisor) (pos 0) +ℤ t) (at-quotients (suc entry.row) high row entries rising.1)
@@ -142,7 +147,11 @@ table_step : (row count : ℕ) (left : List Multiplier) → row < count → IsRi
     → table row (count - row) left ≡ front_of row left ∷ table (suc row) (count - suc row) (behind_row row left)
 table_step row count left below rising =
     let more : count - row ≡ suc (count - suc row) = omega arith in
-    rw more (rw (at_front row count left rising, table_same (suc row) (count - suc row) left (behind_row row left) (λ later after. at_behind_later row later left after)) refl)
+    rw more (rw (
+      at_front row count left rising,
+      table_same (suc row) (count - suc row) left (behind_row row left)
+          (λ later after. at_behind_later row later left after),
+    ) refl)
 
 pub list_step : (times : ℤ) (row count : ℕ) (left : List Multiplier) (made after all : List ℤ) → row < count → IsRising row count left
     → made ++ scaled times (table row (count - row) left) ≡ all → after ≡ made ++ (times *ℤ front_of row left) ∷ []

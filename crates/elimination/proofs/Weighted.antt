@@ -91,13 +91,18 @@ table_sums k l first (suc n) zero (suc count) made ps qs is sums ps_end qs_end =
     )
     (ap (λ t. t ∷ scaled k (table (suc first) n ps)) (sym (left_alone l (k *ℤ at ps first))))
 table_sums k l first (suc n) (suc m) (suc count) made ps qs is sums ps_end qs_end =
-    rw (sums first, table_sums k l (suc first) n m count made ps qs (omega arith) sums (λ row past. ps_end row (omega arith)) (λ row past. qs_end row (omega arith))) refl
+    rw (
+      sums first,
+      table_sums k l (suc first) n m count made ps qs (omega arith) sums (λ row past. ps_end row (omega arith))
+          (λ row past. qs_end row (omega arith)),
+    ) refl
 
 -- the multipliers of the sum, of as many rows as the longer list has
 pub table-sum : (k l : ℤ) (n m count : ℕ) (made ps qs : List Multiplier) (first second : List ℤ) → count ≡ max n m
     → ((row : ℕ) → at made row ≡ (k *ℤ at ps row) +ℤ (l *ℤ at qs row)) → IsRising 0 n ps → IsRising 0 m qs → table 0 n ps ≡ first → table 0 m qs ≡ second
     → table 0 count made ≡ plus (scaled k first) (scaled l second)
 table-sum k l n m count made ps qs first second is sums ps_rising qs_rising first_is second_is =
-    table_sums k l 0 n m count made ps qs is sums (λ row past. ends_before n ps ps_rising row (omega arith)) (λ row past. ends_before m qs qs_rising row (omega arith))
+    table_sums k l 0 n m count made ps qs is sums (λ row past. ends_before n ps ps_rising row (omega arith))
+    (λ row past. ends_before m qs qs_rising row (omega arith))
     ∙ ap (λ t. plus (scaled k t) (scaled l (table 0 m qs))) first_is
     ∙ ap (λ t. plus (scaled k first) (scaled l t)) second_is

@@ -6,7 +6,10 @@ use Rattle.farkas_check.specs.Refutes.{Refutes, IsRefutable}
 use Rattle.elimination.specs.declared.answer.Answer.{Answer}
 use Rattle.elimination.specs.declared.answer.Answer.TheVariants.{Refuted, NotRefutable}
 use Rattle.elimination.specs.declared.answer.Limit.TheVariants.{Memory}
-use Rattle.elimination.specs.Eliminated.{eliminated}
+use Rattle.elimination.specs.Combination.{Combination}
+use Rattle.elimination.specs.Joining.{list_of}
+use Rattle.elimination.specs.Made.{IsMade}
+use Rattle.elimination.specs.Eliminated.{initial, eliminate, eliminated}
 
 -- Some fractions meet all rows: these numbers over one positive denominator.
 pub record HasPoint (rows : List Row) : Type 0 where
@@ -14,6 +17,11 @@ pub record HasPoint (rows : List Row) : Type 0 where
   pub denominator : ℤ
   pub positive : pos 0 <ℤ denominator
   pub meets : All (Meets numbers denominator) rows
+
+-- Each row of each list that is made is the sum of the given rows, each times its multiplier; `left` columns were eliminated.
+abbrev pub LawOfMultipliers : Type 0
+LawOfMultipliers = (given : List Row) (cap left : ℕ) (rows : List Combination)
+    → eliminate cap left 0 (list_of cap (initial 0 given)) ≡ Ok rows → All (IsMade given) rows
 
 -- Multipliers that are answered refute the rows, and are narrow.
 abbrev pub LawOfRefutations : Type 0

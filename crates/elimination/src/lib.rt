@@ -15,21 +15,19 @@
 mod answer;
 
 // Rows with the multipliers that make them, from the multipliers up.
+mod combination;
 mod multipliers;
 
-mod combination;
-
 // A list that rows join, the elimination of one column, and of all.
-mod joining;
-
 mod column;
-
 mod eliminate;
-
+mod joining;
 mod laws;
 #[cfg(test)]
 mod tests;
 
 pub use answer::{Answer, Limit};
 pub use eliminate::decide;
-pub use laws::{law_of_limits, law_of_points, law_of_refutability, law_of_refutations};
+pub use laws::{
+    law_of_limits, law_of_multipliers, law_of_points, law_of_refutability, law_of_refutations,
+};

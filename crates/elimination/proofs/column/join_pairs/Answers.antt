@@ -18,8 +18,10 @@ returns-in_err-join_pairs_of c =
     let lower : Combination = c.lower-item.result in
     let i = c.loop-lower.lower-index in
     let each : Combination → List Combination = λ row. map (paired c.args.j row) c.args.uppers.now in
-    let ends = subst (λ (rows : List Combination). Joins mid rows new (Err c.in_err-join_pairs_of.field-0.0)) (sym (append-nil (each lower))) c.in_err-join_pairs_of.ensures in
-    rw (p.1, p.2) (walk_ends (λ rows. pairs c.args.j rows c.args.uppers.now) (flat_map-append each) old mid new (take i lowers) (drop (suc i) lowers) lowers lower
+    let ends = subst (λ (rows : List Combination). Joins mid rows new (Err c.in_err-join_pairs_of.field-0.0))
+    (sym (append-nil (each lower))) c.in_err-join_pairs_of.ensures in
+    rw (p.1, p.2) (walk_ends (λ rows. pairs c.args.j rows c.args.uppers.now) (flat_map-append each) old mid new (take i lowers)
+    (drop (suc i) lowers) lowers lower
     c.in_err-join_pairs_of.field-0.0 (parts lowers i lower c.loop-lower-test.true c.lower-item.is) c.loop-lower.invariant ends)
 
 pub loop-lower-preserved : goal.loop-lower-preserved
@@ -32,5 +34,6 @@ loop-lower-preserved c =
     let i = c.loop-lower.lower-index in
     let each : Combination → List Combination = λ row. map (paired c.args.j row) c.args.uppers.now in
     let more = subst (λ (rows : List Combination). Joins mid rows new (Ok tt)) (sym (append-nil (each lower))) c.in_ok-join_pairs_of.ensures in
-    subst (λ (rows : List Combination). Joins old (pairs c.args.j rows c.args.uppers.now) new (Ok tt)) (sym (taken lowers i lower c.loop-lower-test.true c.lower-item.is))
+    subst (λ (rows : List Combination). Joins old (pairs c.args.j rows c.args.uppers.now) new (Ok tt))
+    (sym (taken lowers i lower c.loop-lower-test.true c.lower-item.is))
     (walk_more (λ rows. pairs c.args.j rows c.args.uppers.now) (flat_map-append each) old mid new (take i lowers) lower c.loop-lower.invariant more)

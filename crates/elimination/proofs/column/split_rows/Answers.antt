@@ -14,25 +14,31 @@ loop-row-preserved c =
     let so_far = c.loop-row.invariant in
     let added = c.in_ok-add.ensures in
     record {
-      without = added.without ∙ ap (λ (t : List Combination). t ++ without j one) so_far.without ∙ sym (filter-append (λ (r : Combination). is_zero (entry j r)) xs one);
-      lower = added.lower ∙ ap (λ (t : List Combination). t ++ lower_bounds j one) so_far.lower ∙ sym (filter-append (λ (r : Combination). is_positive (entry j r)) xs one);
-      upper = added.upper ∙ ap (λ (t : List Combination). t ++ upper_bounds j one) so_far.upper ∙ sym (filter-append (λ (r : Combination). is_negative (entry j r)) xs one);
+      without = added.without ∙ ap (λ (t : List Combination). t ++ without j one) so_far.without
+          ∙ sym (filter-append (λ (r : Combination). is_zero (entry j r)) xs one);
+      lower = added.lower ∙ ap (λ (t : List Combination). t ++ lower_bounds j one) so_far.lower
+          ∙ sym (filter-append (λ (r : Combination). is_positive (entry j r)) xs one);
+      upper = added.upper ∙ ap (λ (t : List Combination). t ++ upper_bounds j one) so_far.upper
+          ∙ sym (filter-append (λ (r : Combination). is_negative (entry j r)) xs one);
     }
 
 pub returns-clause-without : goal.returns-clause-without
 returns-clause-without c =
     let road = YieldsList-from_vec {s = c.into_iter-row-iterator.result} c.args.rows.items (search rules) (search rules) in
-    let all = yielded_all road c.loop-row.yielded c.loop-row.row-iterator c.loop-row.yielded_by c.next.result c.next.new.self c.in-None.is c.next.ensures.steps in
+    let all = yielded_all road c.loop-row.yielded c.loop-row.row-iterator c.loop-row.yielded_by c.next.result c.next.new.self c.in-None.is c.next.ensures.steps
+    in
     c.loop-row.invariant.without ∙ ap (without c.args.j) all
 
 pub returns-clause-lower : goal.returns-clause-lower
 returns-clause-lower c =
     let road = YieldsList-from_vec {s = c.into_iter-row-iterator.result} c.args.rows.items (search rules) (search rules) in
-    let all = yielded_all road c.loop-row.yielded c.loop-row.row-iterator c.loop-row.yielded_by c.next.result c.next.new.self c.in-None.is c.next.ensures.steps in
+    let all = yielded_all road c.loop-row.yielded c.loop-row.row-iterator c.loop-row.yielded_by c.next.result c.next.new.self c.in-None.is c.next.ensures.steps
+    in
     c.loop-row.invariant.lower ∙ ap (lower_bounds c.args.j) all
 
 pub returns-clause-upper : goal.returns-clause-upper
 returns-clause-upper c =
     let road = YieldsList-from_vec {s = c.into_iter-row-iterator.result} c.args.rows.items (search rules) (search rules) in
-    let all = yielded_all road c.loop-row.yielded c.loop-row.row-iterator c.loop-row.yielded_by c.next.result c.next.new.self c.in-None.is c.next.ensures.steps in
+    let all = yielded_all road c.loop-row.yielded c.loop-row.row-iterator c.loop-row.yielded_by c.next.result c.next.new.self c.in-None.is c.next.ensures.steps
+    in
     c.loop-row.invariant.upper ∙ ap (upper_bounds c.args.j) all

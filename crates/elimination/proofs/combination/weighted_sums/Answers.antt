@@ -15,6 +15,7 @@ loop-i-preserved c =
     let entry : ℤ = c.weighted_sum.result in
     let fits : FitsSigned w128 entry = search rules in
     let inside : c.loop-i.i < max (length xs) (length ys) = omega (arith, c.max-count.ensures) in
-    sums_step k l xs ys c.loop-i.made.items c.push.new.self.items (plus (scaled k xs) (scaled l ys)) c.loop-i.i c.number_at.result.now c.number_at-in-loop-i.result.now entry inside
+    sums_step k l xs ys c.loop-i.made.items c.push.new.self.items
+    (plus (scaled k xs) (scaled l ys)) c.loop-i.i c.number_at.result.now c.number_at-in-loop-i.result.now entry inside
     c.number_at.ensures.number c.number_at-in-loop-i.ensures.number c.weighted_sum.ensures c.loop-i.invariant
     (c.in_ok-push.ensures.items ∙ ap (λ (v : ℤ). c.loop-i.made.items ++ v ∷ []) (to_z-of_z w128 entry fits))

@@ -16,7 +16,8 @@ returns-in_err-rows c =
     let cap = c.args.cap in
     let given : List Row = c.args.given.now in
     let first : Result (List Combination) EarlyEnd = list_of cap (initial 0 given) in
-    rw (p.1, p.2) (ends_first (λ before. eliminate cap (columns_of given) 0 before) (eliminate_ended cap (columns_of given) 0) first (eliminate cap (columns_of given) 0 first)
+    rw (p.1, p.2) (ends_first (λ before. eliminate cap (columns_of given) 0 before) (eliminate_ended cap (columns_of given) 0) first
+    (eliminate cap (columns_of given) 0 first)
     c.in_err-rows.field-0.0 refl c.in_err-rows.ensures)
 
 pub returns : goal.returns

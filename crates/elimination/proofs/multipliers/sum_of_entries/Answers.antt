@@ -12,7 +12,8 @@ pub loop-ps_left-smaller : goal.loop-ps_left-smaller
 loop-ps_left-smaller c =
     let ps : List Multiplier = c.loop-ps_left.ps_left.now in
     let qs : List Multiplier = c.loop-ps_left.qs_left.now in
-    let some : (ps ≢ []) ⊎ (qs ≢ []) = elim c.if-not-is_empty.branch [ then-not-is_empty w ↦ inl (search rules) | else-not-is_empty+then-not-is_empty-2 w ↦ inr (search rules) ] in
+    let some : (ps ≢ []) ⊎ (qs ≢ []) = elim c.if-not-is_empty.branch
+    [ then-not-is_empty w ↦ inl (search rules) | else-not-is_empty+then-not-is_empty-2 w ↦ inr (search rules) ] in
     let merging = c.loop-ps_left.invariant.merging in
     let row : c.min-row.result ≡ next_row c.args.count ps qs = search rules in
     rw (c.behind_row-ps_left.ensures, c.behind_row-qs_left.ensures)
@@ -29,7 +30,8 @@ loop-ps_left-preserved c =
     let after : List Multiplier = c.add_entry.new.made.items in
     let n = c.min-row.result in
     let target : ℕ → ℤ = λ row. (k *ℤ at c.args.ps.now row) +ℤ (l *ℤ at c.args.qs.now row) in
-    let some : (ps ≢ []) ⊎ (qs ≢ []) = elim c.if-not-is_empty.branch [ then-not-is_empty w ↦ inl (search rules) | else-not-is_empty+then-not-is_empty-2 w ↦ inr (search rules) ] in
+    let some : (ps ≢ []) ⊎ (qs ≢ []) = elim c.if-not-is_empty.branch
+    [ then-not-is_empty w ↦ inl (search rules) | else-not-is_empty+then-not-is_empty-2 w ↦ inr (search rules) ] in
     let row : n ≡ next_row count ps qs = search rules in
     let value : ℤ = c.front_sum-value.result in
     let fits : FitsSigned w128 value = record { sfits = c.front_sum-value.type_inv } in
@@ -46,10 +48,12 @@ pub returns-clause-rising : goal.returns-clause-rising
 returns-clause-rising c =
     let ps_end : length c.loop-ps_left.ps_left.now ≡ 0 = search rules in
     let qs_end : length c.loop-ps_left.qs_left.now ≡ 0 = search rules in
-    (merging_ends _ _ c.args.count _ c.loop-ps_left.made.items c.loop-ps_left.ps_left.now c.loop-ps_left.qs_left.now ps_end qs_end c.loop-ps_left.invariant.merging).0
+    (merging_ends _ _ c.args.count _ c.loop-ps_left.made.items c.loop-ps_left.ps_left.now c.loop-ps_left.qs_left.now ps_end qs_end
+    c.loop-ps_left.invariant.merging).0
 
 pub returns-clause-sums : goal.returns-clause-sums
 returns-clause-sums c =
     let ps_end : length c.loop-ps_left.ps_left.now ≡ 0 = search rules in
     let qs_end : length c.loop-ps_left.qs_left.now ≡ 0 = search rules in
-    (merging_ends _ _ c.args.count _ c.loop-ps_left.made.items c.loop-ps_left.ps_left.now c.loop-ps_left.qs_left.now ps_end qs_end c.loop-ps_left.invariant.merging).1
+    (merging_ends _ _ c.args.count _ c.loop-ps_left.made.items c.loop-ps_left.ps_left.now c.loop-ps_left.qs_left.now ps_end qs_end
+    c.loop-ps_left.invariant.merging).1

@@ -6,7 +6,8 @@ use Rattle.elimination.proofs.multipliers.sum_of_entries.Given as goal
 
 abbrev pub invariant-loop-ps_left : goal.invariant-loop-ps_left
 invariant-loop-ps_left l = record {
-  merging : IsMerging l.weights.first l.weights.second l.count (λ row. (l.weights.first *ℤ at l.ps row) +ℤ (l.weights.second *ℤ at l.qs row)) l.made.items l.ps_left l.qs_left;
+  merging : IsMerging l.weights.first l.weights.second l.count
+      (λ row. (l.weights.first *ℤ at l.ps row) +ℤ (l.weights.second *ℤ at l.qs row)) l.made.items l.ps_left l.qs_left;
   ps_narrow : All (λ entry. IsNarrow entry.value) l.ps_left;
   qs_narrow : All (λ entry. IsNarrow entry.value) l.qs_left;
 }

@@ -11,7 +11,10 @@ pub invariant_of-result : goal.invariant_of-result
 invariant_of-result c =
     let constant : ℤ = c.weighted_sum.result in
     let fits : FitsSigned w128 constant = search rules in
-    let is : combination_of c.from_vec.result c.weighted_sum.result c.self.inside.equality c.in_ok-multipliers.multipliers ≡ combined c.args.weights.now.first c.args.self.now c.args.weights.now.second c.args.second.now = search rules in
-    subst IsSmallCombination (sym (ap (λ (z : ℤ). combination_of c.from_vec.result z c.self.inside.equality c.in_ok-multipliers.multipliers) (to_z-of_z w128 constant fits) ∙ is))
-    (small_combined c.args.weights.now.first c.args.self.now c.args.weights.now.second c.args.second.now c.args.weights.now.first_fits c.args.weights.now.second_fits
+    let is : combination_of c.from_vec.result c.weighted_sum.result c.self.inside.equality c.in_ok-multipliers.multipliers ≡ combined c.args.weights.now.first
+    c.args.self.now c.args.weights.now.second c.args.second.now = search rules in
+    subst IsSmallCombination (sym (ap (λ (z : ℤ). combination_of c.from_vec.result z c.self.inside.equality c.in_ok-multipliers.multipliers)
+    (to_z-of_z w128 constant fits) ∙ is))
+    (small_combined c.args.weights.now.first c.args.self.now c.args.weights.now.second c.args.second.now c.args.weights.now.first_fits
+    c.args.weights.now.second_fits
     (subst IsFittingCombination c.self.view_is c.self.invariant) (subst IsFittingCombination c.second.view_is c.second.invariant))

@@ -12,6 +12,8 @@ pub invariant_of-result : goal.invariant_of-result
 invariant_of-result c =
     let constant : ℤ = c.from.result in
     let fits : FitsSigned w128 constant = search rules in
-    let is : combination_of c.from_vec.result c.from.result c.args.row.now.equality c.in_ok-multipliers.multipliers ≡ given_row c.args.before (c.args.count - c.args.before - 1) c.args.row.now = search rules in
-    subst IsSmallCombination (sym (ap (λ (z : ℤ). combination_of c.from_vec.result z c.args.row.now.equality c.in_ok-multipliers.multipliers) (to_z-of_z w128 constant fits) ∙ is))
+    let is : combination_of c.from_vec.result c.from.result c.args.row.now.equality c.in_ok-multipliers.multipliers ≡ given_row c.args.before
+    (c.args.count - c.args.before - 1) c.args.row.now = search rules in
+    subst IsSmallCombination (sym (ap (λ (z : ℤ). combination_of c.from_vec.result z c.args.row.now.equality c.in_ok-multipliers.multipliers)
+    (to_z-of_z w128 constant fits) ∙ is))
     (small_given c.args.before (c.args.count - c.args.before - 1) c.args.row.now c.requires.narrow)

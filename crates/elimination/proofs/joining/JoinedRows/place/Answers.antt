@@ -12,11 +12,13 @@ returns-then-is_tighter-clause-rows c =
     let rows : List Combination = c.args.self.now.rows.items in
     let earlier : Combination = c.index.result.now in
     let there : earlier ≡ get_or rows c.in-Some.at earlier = search rules in
-    sym (placed_instead rows c.args.row earlier c.parallel.result c.in-Some.at true c.parallel.ensures c.in-Some.is there (sym c.is_tighter.ensures ∙ c.if-is_tighter.true))
+    sym (placed_instead rows c.args.row earlier c.parallel.result c.in-Some.at true c.parallel.ensures c.in-Some.is there
+    (sym c.is_tighter.ensures ∙ c.if-is_tighter.true))
 
 pub returns-else-is_tighter-clause-rows : goal.returns-else-is_tighter-clause-rows
 returns-else-is_tighter-clause-rows c =
     let rows : List Combination = c.args.self.now.rows.items in
     let earlier : Combination = c.index.result.now in
     let there : earlier ≡ get_or rows c.in-Some.at earlier = search rules in
-    sym (placed_instead rows c.args.row earlier c.parallel.result c.in-Some.at false c.parallel.ensures c.in-Some.is there (sym c.is_tighter.ensures ∙ c.if-is_tighter.false))
+    sym (placed_instead rows c.args.row earlier c.parallel.result c.in-Some.at false c.parallel.ensures c.in-Some.is there
+    (sym c.is_tighter.ensures ∙ c.if-is_tighter.false))
