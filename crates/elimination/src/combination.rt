@@ -337,7 +337,8 @@ impl Combination {
 
     /// The multipliers with which the constant of a row that does not hold is negative.
     pub fn refuting_multipliers(&self, alloc: Global) -> Result<Items<i128>, AllocError>
-        ensures { IfOk result (λ made. made ≡ refuting_multipliers self.now.row.constant self.now.multipliers) }
+        ensures { IfOk result (λ made. made
+            ≡ refuting_multipliers self.now.row.constant self.now.multipliers) }
     {
         if is_positive(&self.constant) {
             let negated = self.multipliers.list(alloc, &-1)?;

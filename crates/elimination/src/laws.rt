@@ -1,8 +1,8 @@
 //! Laws of the definitions alone. Each is the contract of a call that does nothing.
 ghost use Rattle.elimination.specs.Laws.{LawOfLimits, LawOfMultipliers, LawOfPoints, LawOfRefutability, LawOfRefutations};
 
-/// In each list that an elimination makes, each row is the sum of the given rows, each times its multiplier. At inequalities
-/// multipliers are not negative, and 0 where the row is an equality.
+/// In each list that an elimination makes, each row is the sum of the given rows, each times its
+/// multiplier. At inequalities multipliers are not negative, and 0 where the row is an equality.
 pub fn law_of_multipliers()
     ensures { LawOfMultipliers }
 {}

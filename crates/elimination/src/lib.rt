@@ -14,14 +14,22 @@
 // What is answered, and what ends an elimination early.
 mod answer;
 
-// Rows with the multipliers that make them, from the multipliers up.
-mod combination;
+// How often each given row is taken.
 mod multipliers;
 
-// A list that rows join, the elimination of one column, and of all.
-mod column;
-mod eliminate;
+// Rows with their multipliers.
+mod combination;
+
+// A list that rows join.
 mod joining;
+
+// One column is eliminated.
+mod column;
+
+// All columns are eliminated.
+mod eliminate;
+
+// What the answers say.
 mod laws;
 #[cfg(test)]
 mod tests;
