@@ -10,8 +10,10 @@
 mod law;
 mod multipliers;
 mod sums;
+mod told;
 #[cfg(test)]
 mod tests;
 
-pub use law::refutable_rows_have_no_point;
-pub use multipliers::refutes;
+pub use law::{law_of_idle_rows, refutable_rows_have_no_point};
+pub use multipliers::{is_checkable, refutes, refutes_of};
+pub use told::Rows;

@@ -1,6 +1,6 @@
 //! Forms and tight rows whose entries were worked out by hand.
 use crate::{
-    Form, FormFault, Row, add, are_narrow_rows, columns_of, constant_form, gcd, have_one_length,
+    Form, FormFault, Row, add, are_fitting_rows, columns_of, constant_form, gcd, have_one_length,
     scale, tight, variable_form,
 };
 use sqlite_items::Items;
@@ -147,7 +147,7 @@ fn divisors(rt: HostRuntime) -> Result<(), Fail> {
 const WIDE_IN_ROWS: i64 = 1 << 56;
 
 /// Coefficients and constant of each row, how many columns there are, whether the rows have one length, and whether they
-/// are narrow.
+/// fit.
 const SHAPES: [(&[(&'static [i64], i64)], usize, bool, bool); 7] = [
     (&[], 0, true, true),
     (&[(&[], 1)], 0, true, true),
@@ -166,7 +166,7 @@ const SHAPES: [(&[(&'static [i64], i64)], usize, bool, bool); 7] = [
 #[test]
 fn shapes_of_rows(rt: HostRuntime) -> Result<(), Fail> {
     let alloc = rt.alloc();
-    for (given, columns, one_length, narrow) in SHAPES {
+    for (given, columns, one_length, fit) in SHAPES {
         let mut made = Vec::new(alloc);
         for (coefs, constant) in given {
             made.push(Row::new(alloc, coefs, *constant, false)?)?;
@@ -175,9 +175,9 @@ fn shapes_of_rows(rt: HostRuntime) -> Result<(), Fail> {
         let got = (
             columns_of(rows),
             have_one_length(rows),
-            are_narrow_rows(rows),
+            are_fitting_rows(rows),
         );
-        assert_eq!(rt; got, (columns, one_length, narrow), "{rows:?}");
+        assert_eq!(rt; got, (columns, one_length, fit), "{rows:?}");
     }
     Ok(())
 }
