@@ -4,7 +4,7 @@ use Rattle.std.specs.Prelude.{ℤ, pos, negsuc, ◌+ℤ◌, ◌*ℤ◌, ◌-ℤ�
 use Rattle.std.specs.List.{AllByRecursion}
 use Rattle.std.proofs.lemmas.Int.{ints, by_lt_z}
 use Rattle.elimination.proofs.Ring.{as_dif, same_dif, difs}
-use Rattle.lin_terms.proofs.Signs.{nonneg_add, nonneg_mul}
+use Rattle.lin_terms.proofs.Laws.{nonneg_add, nonneg_mul}
 
 -- a positive factor is cancelled
 nonneg_cancel : (q a : ℤ) → pos 0 <ℤ q → pos 0 ≤ℤ (q *ℤ a) → pos 0 ≤ℤ a

@@ -15,8 +15,8 @@ use Rattle.elimination.specs.declared.answer.EarlyEnd.TheVariants.{Contradiction
 use Rattle.elimination.specs.Combination.{Combination, entry, sign, size, combined}
 use Rattle.elimination.specs.Column.{projected}
 use Rattle.elimination.specs.Joining.{primitive, has_no_variable, list_of}
-use Rattle.elimination.specs.Eliminated.{initial, eliminate, answer_of, eliminated}
-use Rattle.elimination.specs.Laws.{HasPoint}
+use Rattle.elimination.specs.Eliminated.{most_rows, initial, eliminate, answer_of, eliminated}
+use Rattle.lin_terms.specs.Row.{HasPoint}
 use Rattle.elimination.proofs.Lists.{Anything, all_weaker}
 use Rattle.elimination.proofs.Points.{MeetsEach, entry-combined, sign-mul, zero_is, size_of_negative}
 use Rattle.elimination.proofs.Primitive.{entry-primitive}
@@ -78,8 +78,8 @@ gone_steps n j = record {
 
 gone_joins : (n j : ℕ) (row : Combination) → HasGone n j row → Owes (IsLeft n j) Anything (primitive row)
 gone_joins n j row has_gone = record {
-  kept = λ narrow variable. ((λ i gone. entry-primitive i row (has_gone i gone)), variable);
-  failed = λ narrow no_variable fails. tt;
+  kept = λ fits variable. ((λ i gone. entry-primitive i row (has_gone i gone)), variable);
+  failed = λ fits no_variable fails. tt;
 }
 
 column_gone : (cap n j : ℕ) (rows : List Combination) → AllByRecursion (IsLeft n j) rows → Holding (IsLeft n (suc j)) Anything (list_of cap (projected j rows))
@@ -167,4 +167,4 @@ few_point false rows cap e lengths = cc
 
 pub has_point : (rows : List Row) (cap : ℕ) → HaveOneLength rows → eliminated rows cap ≡ Ok NotRefutable → HasPoint rows
 has_point rows cap one_length e =
-    few_point (nat_le (length rows) 4096) rows cap e (recursion_from_All (λ (row : Row). length row.coefs ≡ columns_of rows) rows one_length)
+    few_point (nat_le (length rows) most_rows) rows cap e (recursion_from_All (λ (row : Row). length row.coefs ≡ columns_of rows) rows one_length)

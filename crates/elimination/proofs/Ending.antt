@@ -6,7 +6,8 @@ use Rattle.std.proofs.lemmas.List.{drop_more}
 use Rattle.std.proofs.lemmas.List.Elements.{All-from_recursion}
 use lib.ListN.{length-drop}
 use Rattle.lin_terms.specs.declared.row.Row.{Row}
-use Rattle.lin_terms.specs.Row.{IsNarrow, IsNarrowRow}
+use Rattle.lin_terms.specs.Bounds.{FitsRow}
+use Rattle.lin_terms.specs.Row.{IsFittingRow}
 use Rattle.elimination.specs.declared.answer.Answer.{Answer}
 use Rattle.elimination.specs.declared.answer.Limit.{Limit}
 use Rattle.elimination.specs.declared.answer.EarlyEnd.{EarlyEnd}
@@ -22,20 +23,20 @@ use Rattle.elimination.proofs.Stepping.{joined_one}
 
 -- ---- given rows
 
-narrow_zeros : (n : ℕ) → AllByRecursion IsNarrow (replicate n (pos 0))
-narrow_zeros zero = tt
-narrow_zeros (suc n) = (omega arith, narrow_zeros n)
+fitting_zeros : (n : ℕ) → AllByRecursion FitsRow (replicate n (pos 0))
+fitting_zeros zero = tt
+fitting_zeros (suc n) = (omega arith, fitting_zeros n)
 
-narrow_given : (before behind : ℕ) (row : Row) → IsNarrowRow row → IsFittingCombination (given_row before behind row)
-narrow_given before behind row narrow = record {
-  constant = narrow.constant;
-  coefs = narrow.coefs;
-  multipliers = All-from_recursion IsNarrow (replicate before (pos 0) ++ pos 1 ∷ replicate behind (pos 0))
-      (all_append IsNarrow (replicate before (pos 0)) (pos 1 ∷ replicate behind (pos 0)) (narrow_zeros before) (omega arith, narrow_zeros behind));
+fitting_given : (before behind : ℕ) (row : Row) → IsFittingRow row → IsFittingCombination (given_row before behind row)
+fitting_given before behind row fits = record {
+  constant = fits.constant;
+  coefs = fits.coefs;
+  multipliers = All-from_recursion FitsRow (replicate before (pos 0) ++ pos 1 ∷ replicate behind (pos 0))
+      (all_append FitsRow (replicate before (pos 0)) (pos 1 ∷ replicate behind (pos 0)) (fitting_zeros before) (omega arith, fitting_zeros behind));
 }
 
-pub small_given : (before behind : ℕ) (row : Row) → IsNarrowRow row → IsSmallCombination (given_row before behind row)
-small_given before behind row narrow = small_combination (given_row before behind row) (narrow_given before behind row narrow)
+pub small_given : (before behind : ℕ) (row : Row) → IsFittingRow row → IsSmallCombination (given_row before behind row)
+small_given before behind row fits = small_combination (given_row before behind row) (fitting_given before behind row fits)
 
 -- the next given row, and then the later ones
 pub given_joins : (cap i : ℕ) (given : List Row) (row : Row) (made : Combination) (rows : List Combination) (target : Result (List Combination) EarlyEnd)

@@ -4,7 +4,7 @@ use Prim.Native.Nat.{◌∣◌}
 use Rattle.std.specs.Prelude.{ℤ, pos, negsuc, ◌*ℤ◌, unsigned_abs}
 use Rattle.std.proofs.lemmas.Nat.Gcd.{dvd-zero}
 use Rattle.lin_terms.specs.Divisor.{gcd_with, gcd_of, floor_div}
-use Rattle.lin_terms.proofs.Divisors.{gcd_with-append, same_gcd, gcd_of_below}
+use Rattle.lin_terms.proofs.Laws.{gcd_with-append, same_gcd, gcd_of_below}
 use Rattle.elimination.specs.declared.multipliers.Multiplier.{Multiplier}
 use Rattle.elimination.specs.Sparse.{table, IsRising}
 use Rattle.elimination.specs.Combination.{Combination}

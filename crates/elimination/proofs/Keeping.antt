@@ -49,9 +49,9 @@ module _ (P : Combination → Type 0) (R : List ℤ → Type 0) where
 
   judged_holds : (rows : List Combination) (row : Combination) → is_wide (numbers_of row) ≡ false → has_no_variable row.row.coefs ≡ true
       → AllByRecursion P rows → Owes row → Holding (judged rows row)
-  judged_holds rows row narrow no_variable all joins =
+  judged_holds rows row fits no_variable all joins =
       cond_both (allows row.row.equality row.row.constant) (Ok rows) (Err (Contradiction (refuting_multipliers row.row.constant row.multipliers))) Holding
-      (λ allowed. all) (λ fails. joins.failed narrow no_variable fails)
+      (λ allowed. all) (λ fails. joins.failed fits no_variable fails)
 
   counted_holds : (cap : ℕ) (rows : List Combination) → AllByRecursion P rows → Holding (counted cap rows)
   counted_holds cap rows all = cond_both (nat_le (length rows) cap) (Ok rows) (Err (AtLimit ManyRows)) Holding (λ few. all) (λ many. tt)
@@ -60,9 +60,9 @@ module _ (P : Combination → Type 0) (R : List ℤ → Type 0) where
   admitted_holds cap rows row all joins =
       let by_variables : Result (List Combination) EarlyEnd = cond (has_no_variable row.row.coefs) (judged rows row) (counted cap (added rows row)) in
       cond_both (is_wide (numbers_of row)) (Err (AtLimit WideRow)) by_variables Holding (λ wide. tt)
-      (λ narrow. cond_both (has_no_variable row.row.coefs) (judged rows row) (counted cap (added rows row)) Holding
-      (λ no_variable. judged_holds rows row narrow no_variable all joins)
-      (λ variable. counted_holds cap (added rows row) (all_added rows row all (joins.kept narrow variable))))
+      (λ fits. cond_both (has_no_variable row.row.coefs) (judged rows row) (counted cap (added rows row)) Holding
+      (λ no_variable. judged_holds rows row fits no_variable all joins)
+      (λ variable. counted_holds cap (added rows row) (all_added rows row all (joins.kept fits variable))))
 
   joined_each_holds : (cap : ℕ) (before : Result (List Combination) EarlyEnd) (later : List Combination) → Holding before
       → AllByRecursion (λ row. Owes (primitive row)) later → Holding (joined_each cap before later)

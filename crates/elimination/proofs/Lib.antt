@@ -11,7 +11,7 @@ pub mod PointsOfLists
 pub mod Keeping
 pub mod Deciding
 pub mod Making
-pub mod Narrowness
+pub mod Fitting
 pub mod Answering
 mod Samples
 pub mod Merging

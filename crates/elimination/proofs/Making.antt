@@ -11,10 +11,8 @@ use Rattle.lin_terms.specs.declared.row.Row.{Row}
 use Rattle.lin_terms.specs.Vectors.{dot, plus, scaled}
 use Rattle.lin_terms.specs.Divisor.{floor_div}
 use Rattle.elimination.proofs.Ring.{as_dif, same_dif, difs, mul-minus}
-use Rattle.lin_terms.proofs.Signs.{nonneg_add, nonneg_mul, zero_factor}
-use Rattle.lin_terms.proofs.Dots.{zero_entries, dot-replicate}
+use Rattle.lin_terms.proofs.Laws.{nonneg_add, nonneg_mul, zero_factor, zero_entries, dot-replicate, exact_quotient, dot-quotients}
 use Rattle.elimination.proofs.Lists.{get_or_all}
-use Rattle.lin_terms.proofs.Divisors.{exact_quotient, dot-quotients}
 use Rattle.farkas_check.specs.Refutes.{column, constants, MayMultiply, Refutes}
 use Rattle.elimination.specs.declared.answer.EarlyEnd.{EarlyEnd}
 use Rattle.elimination.specs.Combination.{Combination, entry, is_zero, is_positive, sign, size, combined}
@@ -194,8 +192,8 @@ made_joins given row made =
     let all = made_primitive given row made in
     let joins : Combination = primitive row in
     record {
-      kept = λ narrow variable. all;
-      failed = λ narrow no_variable fails.
+      kept = λ fits variable. all;
+      failed = λ fits no_variable fails.
           contradicted given joins.multipliers (λ j. all.columns j
           ∙ zero_entries is_zero zero_is joins.row.coefs no_variable j) joins.row.equality joins.row.constant all.signs all.constant fails;
     }

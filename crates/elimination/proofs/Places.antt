@@ -7,7 +7,7 @@ use Rattle.std.proofs.lemmas.List.Quantifiers.{position-Some}
 use Rattle.std.proofs.lemmas.Bool.{cond-true, cond-false}
 use Rattle.std.proofs.lemmas.Bool.Decides.{nat_tests}
 use Rattle.std.proofs.lemmas.List.Elements.{All-from_recursion, recursion_from_All}
-use Rattle.lin_terms.specs.Row.{IsNarrow}
+use Rattle.lin_terms.specs.Bounds.{FitsRow}
 use Rattle.elimination.specs.declared.answer.EarlyEnd.TheVariants.{AtLimit}
 use Rattle.elimination.specs.declared.answer.Limit.TheVariants.{WideRow}
 use Rattle.elimination.specs.Combination.{Combination}
@@ -15,7 +15,7 @@ use Rattle.elimination.specs.Joining.{numbers_of, primitive, is_wide, is_paralle
 use Rattle.elimination.specs.Working.{IsFittingCombination}
 use Rattle.elimination.proofs.Found.{not_found, found}
 use Rattle.elimination.proofs.Lists.{all_append, all_front, all_back}
-use Rattle.elimination.proofs.Narrowness.{narrow_numbers}
+use Rattle.elimination.proofs.Fitting.{fitting_numbers}
 
 -- ---- the first parallel row
 
@@ -59,46 +59,46 @@ placed_instead rows row earlier place at false is some there less =
     let placed_there = placed_at rows row earlier place at is some there in
     placed_there.0 ∙ ap (λ t. set rows at (cond t row earlier)) less ∙ ap (λ r. set rows at r) placed_there.1 ∙ set-get_or rows at row
 
--- ---- narrow rows
+-- ---- rows that fit
 
-numbers_narrow : (row : Combination) → IsFittingCombination row → AllByRecursion IsNarrow (numbers_of row)
-numbers_narrow row narrow = (
-  narrow.constant,
-  all_append IsNarrow row.row.coefs row.multipliers (recursion_from_All IsNarrow row.row.coefs narrow.coefs)
-      (recursion_from_All IsNarrow row.multipliers narrow.multipliers),
+numbers_fits : (row : Combination) → IsFittingCombination row → AllByRecursion FitsRow (numbers_of row)
+numbers_fits row fits = (
+  fits.constant,
+  all_append FitsRow row.row.coefs row.multipliers (recursion_from_All FitsRow row.row.coefs fits.coefs)
+      (recursion_from_All FitsRow row.multipliers fits.multipliers),
 )
 
-pub narrow_combination : (row : Combination) → is_wide (numbers_of row) ≡ false → IsFittingCombination row
-narrow_combination row e =
-    let all = narrow_numbers (numbers_of row) e in
+pub fitting_combination : (row : Combination) → is_wide (numbers_of row) ≡ false → IsFittingCombination row
+fitting_combination row e =
+    let all = fitting_numbers (numbers_of row) e in
     record {
       constant = all.0;
-      coefs = All-from_recursion IsNarrow row.row.coefs (all_front IsNarrow row.row.coefs row.multipliers all.1);
-      multipliers = All-from_recursion IsNarrow row.multipliers (all_back IsNarrow row.row.coefs row.multipliers all.1);
+      coefs = All-from_recursion FitsRow row.row.coefs (all_front FitsRow row.row.coefs row.multipliers all.1);
+      multipliers = All-from_recursion FitsRow row.multipliers (all_back FitsRow row.row.coefs row.multipliers all.1);
     }
 
 below_not_wide : (n : ℕ) → n < 2 ^ 56 → nat_le (2 ^ 56) n ≡ false
 below_not_wide n small = grind (arith, nat_tests)
 
-no_wide : (numbers : List ℤ) → AllByRecursion IsNarrow numbers → is_wide numbers ≡ false
-no_wide [] narrow = refl
-no_wide (x ∷ numbers) narrow = rw (below_not_wide (unsigned_abs x) narrow.0, no_wide numbers narrow.1) refl
+no_wide : (numbers : List ℤ) → AllByRecursion FitsRow numbers → is_wide numbers ≡ false
+no_wide [] fits = refl
+no_wide (x ∷ numbers) fits = rw (below_not_wide (unsigned_abs x) fits.0, no_wide numbers fits.1) refl
 
-by_width : (wide narrow : Bool) (row : Combination) → is_wide (numbers_of row) ≡ wide → (IsTrue narrow ↔ IsFittingCombination row) → wide ≡ not narrow
-by_width true true row is both = sym is ∙ no_wide (numbers_of row) (numbers_narrow row (both.0 refl))
+by_width : (wide fits : Bool) (row : Combination) → is_wide (numbers_of row) ≡ wide → (IsTrue fits ↔ IsFittingCombination row) → wide ≡ not fits
+by_width true true row is both = sym is ∙ no_wide (numbers_of row) (numbers_fits row (both.0 refl))
 by_width true false row is both = refl
 by_width false true row is both = refl
-by_width false false row is both = both.1 (narrow_combination row is)
+by_width false false row is both = both.1 (fitting_combination row is)
 
-pub width_is : (narrow : Bool) (row : Combination) → (IsTrue narrow ↔ IsFittingCombination row) → is_wide (numbers_of row) ≡ not narrow
-width_is narrow row both = by_width (is_wide (numbers_of row)) narrow row refl both
+pub width_is : (fits : Bool) (row : Combination) → (IsTrue fits ↔ IsFittingCombination row) → is_wide (numbers_of row) ≡ not fits
+width_is fits row both = by_width (is_wide (numbers_of row)) fits row refl both
 
 -- ---- what joins
 
 -- a row that fits is kept
-pub some_row : (row : Combination) (narrow : Bool) → (IsTrue narrow ↔ IsFittingCombination row) → narrow ≡ true
+pub some_row : (row : Combination) (fits : Bool) → (IsTrue fits ↔ IsFittingCombination row) → fits ≡ true
     → ◌≡◌ {A = Option Combination} (cond (is_wide (numbers_of row)) None (Some row)) (Some row)
-some_row row narrow both is = cond-false (is_wide (numbers_of row)) None (Some row) (width_is narrow row both ∙ ap not is)
+some_row row fits both is = cond-false (is_wide (numbers_of row)) None (Some row) (width_is fits row both ∙ ap not is)
 
 -- what a row that was kept says
 pub kept_same : (wide : Bool) (row found : Combination) → ◌≡◌ {A = Option Combination} (Some found) (cond wide None (Some row)) → (row ≡ found) × (wide ≡ false)
@@ -115,5 +115,5 @@ joined_wide cap rows raw row is wide = ap (admitted cap rows) (sym is) ∙ cond-
 
 pub joined_kept : (cap : ℕ) (rows : List Combination) (raw row : Combination) → row ≡ primitive raw → is_wide (numbers_of row) ≡ false
     → joined cap rows raw ≡ kept cap rows row
-joined_kept cap rows raw row is narrow = ap (admitted cap rows) (sym is)
-    ∙ cond-false (is_wide (numbers_of row)) (Err (AtLimit WideRow)) (kept cap rows row) narrow
+joined_kept cap rows raw row is fits = ap (admitted cap rows) (sym is)
+    ∙ cond-false (is_wide (numbers_of row)) (Err (AtLimit WideRow)) (kept cap rows row) fits

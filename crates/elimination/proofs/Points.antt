@@ -6,8 +6,7 @@ use Rattle.std.proofs.lemmas.Int.{ints}
 use Rattle.lin_terms.specs.Vectors.{dot, plus, scaled}
 use Rattle.lin_terms.specs.Row.{Allows, Meets}
 use Rattle.elimination.proofs.Ring.{as_dif, same_dif, difs}
-use Rattle.lin_terms.proofs.Dots.{dot-plus, dot-scaled, get_or-plus, get_or-scaled, length-scaled}
-use Rattle.lin_terms.proofs.Signs.{nonneg_mul}
+use Rattle.lin_terms.proofs.Laws.{dot-plus, dot-scaled, get_or-plus, get_or-scaled, length-scaled, nonneg_mul}
 use Rattle.elimination.specs.Combination.{Combination, entry, is_zero, is_positive, is_negative, sign, size, combined}
 
 -- the value of `coefs · v + constant` at numbers over a denominator, times the denominator

@@ -10,8 +10,7 @@ use lib.Pointwise.{pointwise, pointwise_decides}
 use Rattle.lin_terms.specs.Vectors.{dot, scaled}
 use Rattle.lin_terms.specs.Row.{Allows, Meets}
 use Rattle.elimination.proofs.Ring.{as_dif, same_dif, difs}
-use Rattle.lin_terms.proofs.Signs.{nonneg_add, nonneg_mul}
-use Rattle.lin_terms.proofs.Dots.{length-scaled, zero_entries, dot-zeros}
+use Rattle.lin_terms.proofs.Laws.{nonneg_add, nonneg_mul, length-scaled, zero_entries, dot-zeros}
 use Rattle.elimination.specs.declared.answer.EarlyEnd.{EarlyEnd}
 use Rattle.elimination.specs.declared.answer.EarlyEnd.TheVariants.{Contradiction, AtLimit}
 use Rattle.elimination.specs.declared.answer.Limit.TheVariants.{WideRow, ManyRows}
@@ -118,7 +117,7 @@ module _ (numbers : List ℤ) (d : ℤ) (not_negative : pos 0 ≤ℤ d) where
   admitted_back cap rows row out =
       let by_variables : Result (List Combination) EarlyEnd = cond (has_no_variable row.row.coefs) (judged rows row) (counted cap (added rows row)) in
       cond_both (is_wide (numbers_of row)) (Err (AtLimit WideRow)) by_variables (IsMetBefore rows row out) (λ wide e met. cc)
-      (λ narrow. cond_both (has_no_variable row.row.coefs) (judged rows row) (counted cap (added rows row)) (IsMetBefore rows row out)
+      (λ fits. cond_both (has_no_variable row.row.coefs) (judged rows row) (counted cap (added rows row)) (IsMetBefore rows row out)
       (λ no_variable. judged_back rows row out no_variable) (λ variable. counted_back cap rows row out))
 
   joined_back : (cap : ℕ) (rows : List Combination) (row : Combination) (out : List Combination) → joined cap rows row ≡ Ok out

@@ -8,7 +8,7 @@ use Rattle.std.proofs.lemmas.Bool.{eq-eqb}
 use Rattle.std.proofs.lemmas.Bool.Decides.{nat_tests}
 use Rattle.std.proofs.lemmas.List.Elements.{All-from_recursion, recursion_from_All}
 use Rattle.lin_terms.specs.Vectors.{scaled}
-use Rattle.lin_terms.specs.Row.{IsNarrow}
+use Rattle.lin_terms.specs.Bounds.{FitsRow}
 use Rattle.elimination.specs.declared.multipliers.Multiplier.{Multiplier}
 use Rattle.elimination.specs.Sparse.{at, table, IsRising, front_of, behind_row, quotients_of}
 use Rattle.elimination.proofs.Merging.{rising_bounds, rising_behind, from_first, at-behind}
@@ -188,16 +188,16 @@ table-unit first (suc before) behind row value is =
 
 -- ---- as the code has them
 
-pub narrow_entries : (count : ℕ) (entries : List Multiplier) (all : List ℤ) → IsRising 0 count entries → table 0 count entries ≡ all → All IsNarrow all
-    → All (λ entry. IsNarrow entry.value) entries
-narrow_entries count entries all rising is narrow =
-    All-from_recursion (λ (entry : Multiplier). IsNarrow entry.value) entries
-    (entries_have IsNarrow count entries rising (recursion_from_All IsNarrow (table 0 count entries) (subst (All IsNarrow) (sym is) narrow)))
+pub fitting_entries : (count : ℕ) (entries : List Multiplier) (all : List ℤ) → IsRising 0 count entries → table 0 count entries ≡ all → All FitsRow all
+    → All (λ entry. FitsRow entry.value) entries
+fitting_entries count entries all rising is fits =
+    All-from_recursion (λ (entry : Multiplier). FitsRow entry.value) entries
+    (entries_have FitsRow count entries rising (recursion_from_All FitsRow (table 0 count entries) (subst (All FitsRow) (sym is) fits)))
 
-pub narrow_table : (count : ℕ) (entries : List Multiplier) (all : List ℤ) → IsRising 0 count entries → table 0 count entries ≡ all
-    → All (λ entry. IsNarrow entry.value) entries ↔ All IsNarrow all
-narrow_table count entries all rising is = (
-  λ narrow. subst (All IsNarrow) is (All-from_recursion IsNarrow (table 0 count entries)
-      (table_has IsNarrow count entries (omega arith) rising (recursion_from_All (λ (entry : Multiplier). IsNarrow entry.value) entries narrow))),
-  λ narrow. narrow_entries count entries all rising is narrow,
+pub fitting_table : (count : ℕ) (entries : List Multiplier) (all : List ℤ) → IsRising 0 count entries → table 0 count entries ≡ all
+    → All (λ entry. FitsRow entry.value) entries ↔ All FitsRow all
+fitting_table count entries all rising is = (
+  λ fits. subst (All FitsRow) is (All-from_recursion FitsRow (table 0 count entries)
+      (table_has FitsRow count entries (omega arith) rising (recursion_from_All (λ (entry : Multiplier). FitsRow entry.value) entries fits))),
+  λ fits. fitting_entries count entries all rising is fits,
 )

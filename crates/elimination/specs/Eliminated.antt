@@ -33,9 +33,13 @@ answer_of (Ok rows) = Ok NotRefutable
 answer_of (Err (Contradiction multipliers)) = Ok (Refuted multipliers)
 answer_of (Err (AtLimit limit)) = Err limit
 
+-- the most rows that may be given
+abbrev pub most_rows : ℕ
+most_rows = 4096
+
 -- what the elimination of all columns answers, with lists of at most `cap` rows
 abbrev pub eliminated : List Row → ℕ → Result Answer Limit
 eliminated rows cap =
-    if nat_le (length rows) 4096
+    if nat_le (length rows) most_rows
     then answer_of (eliminate cap (columns_of rows) 0 (list_of cap (initial 0 rows)))
     else Err ManyRows

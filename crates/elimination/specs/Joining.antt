@@ -78,7 +78,7 @@ counted cap rows = if nat_le (length rows) cap then Ok rows else Err (AtLimit Ma
 
 -- ---- all rows
 
--- the list with a row whose numbers are narrow, or what ends it
+-- the list with a row whose numbers are below 2^56 in size, or what ends it
 abbrev pub kept : ℕ → List Combination → Combination → Result (List Combination) EarlyEnd
 kept cap rows row =
     if has_no_variable row.row.coefs then judged rows row

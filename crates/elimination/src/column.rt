@@ -1,6 +1,6 @@
 //! One column is eliminated.
 ghost use Rattle.std.specs.Prelude.{◌≡◌, IfOk, OnOk, map, position, neg_ℤ, ◌*ℤ◌, [], ◌∷◌, ◌++◌};
-ghost use Rattle.lin_terms.specs.Row.{IsNarrow};
+ghost use Rattle.lin_terms.specs.Bounds.{FitsRow};
 ghost use Rattle.elimination.specs.Combination.{Combination, entry, is_zero, is_positive, is_negative, sign, size};
 ghost use Rattle.elimination.specs.Column.{is_pivot, reduced, paired, without, lower_bounds, upper_bounds, pairs, projected};
 ghost use Rattle.elimination.specs.Outcome.{Joins};
@@ -14,8 +14,8 @@ use std::alloc::{AllocError, Global};
 /// How often a row and the pivot are taken so that the column vanishes from their sum, by their
 /// entries in the column.
 fn reducing_weights(pivot: &i128, entry: &i128) -> Weights
-    requires pivot_narrow { IsNarrow pivot.now }
-    requires entry_narrow { IsNarrow entry.now }
+    requires pivot_fits { FitsRow pivot.now }
+    requires entry_fits { FitsRow entry.now }
     ensures first { result.first ≡ size pivot.now }
     ensures second { result.second ≡ neg_ℤ (sign pivot.now *ℤ entry.now) }
 {
@@ -34,8 +34,8 @@ fn reducing_weights(pivot: &i128, entry: &i128) -> Weights
 /// How often a lower and an upper bound are taken so that the column vanishes from their sum, by
 /// their entries in it.
 fn pairing_weights(lower: &i128, upper: &i128) -> Weights
-    requires lower_narrow { IsNarrow lower.now }
-    requires upper_narrow { IsNarrow upper.now }
+    requires lower_fits { FitsRow lower.now }
+    requires upper_fits { FitsRow upper.now }
     ensures first { result.first ≡ size upper.now }
     ensures second { result.second ≡ lower.now }
 {

@@ -3,7 +3,8 @@
 ghost use Rattle.std.specs.Prelude.{◌≡◌, ◌↔◌, ◌-◌, ◌<◌, ◌^◌, ◌<ℤ◌, ◌+ℤ◌, ◌*ℤ◌, pos, map, unsigned_abs, All, IfOk, IsTrue, int_lt, length, max, slice_index_or, None, Some, if◌then◌else◌};
 ghost use Rattle.std.specs.Int.{int_div_euclid};
 ghost use Rattle.lin_terms.specs.Divisor.{gcd_of, gcd_with};
-ghost use Rattle.lin_terms.specs.Row.{IsNarrow, IsNarrowRow};
+ghost use Rattle.lin_terms.specs.Bounds.{FitsRow};
+ghost use Rattle.lin_terms.specs.Row.{IsFittingRow};
 ghost use Rattle.lin_terms.specs.Vectors.{plus, scaled};
 ghost use Rattle.elimination.specs.Combination.{entry, is_zero, is_positive, is_negative, combined};
 ghost use Rattle.elimination.specs.Joining.{numbers_of, divided, primitive, is_wide, has_no_variable, allows, refuting_multipliers, is_parallel};
@@ -11,7 +12,7 @@ ghost use Rattle.elimination.specs.Eliminated.{given_row};
 ghost use Rattle.elimination.specs.Working.{IsFittingCombination, IsSmallCombination};
 
 use crate::multipliers::{Multipliers, Weights, product};
-use lin_terms::{Row, gcd};
+use lin_terms::{Row, WIDE_ROW, fit_rows, gcd};
 use sqlite_items::Items;
 use std::alloc::{AllocError, Global};
 use std::marker::Model;
@@ -84,17 +85,17 @@ pub fn is_negative(x: &i128) -> bool
 
 /// The number at a place, and 0 past the last.
 fn number_at(numbers: &[i128], i: usize) -> &i128
-    requires { All IsNarrow numbers.now }
+    requires { All FitsRow numbers.now }
     ensures number { result.now ≡ slice_index_or numbers.now i (pos 0) }
-    ensures narrow { IsNarrow result.now }
+    ensures fits { FitsRow result.now }
 {
     if i < numbers.len() { &numbers[i] } else { &0 }
 }
 
-/// The sum of two narrow numbers, each times its weight.
+/// The sum of two numbers below 2^56 in size, each times its weight.
 fn weighted_sum(weights: &Weights, x: &i128, y: &i128) -> i128
-    requires x_narrow { IsNarrow x.now }
-    requires y_narrow { IsNarrow y.now }
+    requires x_fits { FitsRow x.now }
+    requires y_fits { FitsRow y.now }
     ensures { result ≡ (weights.now.first *ℤ x.now) +ℤ (weights.now.second *ℤ y.now) }
 {
     product(&weights.first, x) + product(&weights.second, y)
@@ -107,8 +108,8 @@ fn weighted_sums(
     xs: &[i128],
     ys: &[i128],
 ) -> Result<Vec<i128>, AllocError>
-    requires xs_narrow { All IsNarrow xs.now }
-    requires ys_narrow { All IsNarrow ys.now }
+    requires xs_fits { All FitsRow xs.now }
+    requires ys_fits { All FitsRow ys.now }
     ensures { IfOk result (λ made. made.items
         ≡ plus (scaled weights.now.first xs.now) (scaled weights.now.second ys.now)) }
 {
@@ -129,13 +130,6 @@ fn gcd_of_numbers(start: u128, numbers: &[i128]) -> u128
         g = gcd(g, number.unsigned_abs());
     }
     g
-}
-
-/// Whether all numbers are below 2^56 in size.
-fn are_narrow(numbers: &[i128]) -> bool
-    ensures { IsTrue result ↔ All IsNarrow numbers.now }
-{
-    numbers.iter().all(|number| number.unsigned_abs() < 1 << 56)
 }
 
 /// All numbers over a divisor, rounded down.
@@ -174,7 +168,7 @@ impl Sum {
     /// the others are 0.
     pub fn given(alloc: Global, row: &Row, before: u32, count: u32) -> Result<Sum, AllocError>
         requires inside { before < count }
-        requires narrow { IsNarrowRow row.now }
+        requires fits { IsFittingRow row.now }
         ensures { IfOk result (λ made. made ≡ given_row before (count - before - 1) row.now) }
     {
         let coefs = widened(alloc, row.coefs.as_slice())?;
@@ -226,19 +220,19 @@ impl Sum {
     }
 
     /// Whether all its numbers are below 2^56 in size.
-    fn is_narrow(&self) -> bool
+    fn fits(&self) -> bool
         ensures { IsTrue result ↔ IsFittingCombination self.now }
     {
-        self.constant.unsigned_abs() < 1 << 56
-            && are_narrow(self.coefs.as_slice())
-            && self.multipliers.are_narrow()
+        self.constant.unsigned_abs() < WIDE_ROW
+            && fit_rows(self.coefs.as_slice())
+            && self.multipliers.fit()
     }
 
     /// The sum as a row of a list, unless one of its numbers is 2^56 or more in size.
     pub fn row(self) -> Option<Combination>
         ensures { result ≡ (if is_wide (numbers_of self) then None else Some self) }
     {
-        if !self.is_narrow() {
+        if !self.fits() {
             return None;
         }
         Some(Combination {
@@ -291,7 +285,7 @@ impl Combination {
     /// Its coefficient in a column, and 0 past the last.
     pub fn entry(&self, j: usize) -> &i128
         ensures entry { result.now ≡ entry j self.now }
-        ensures narrow { IsNarrow result.now }
+        ensures fits { FitsRow result.now }
     {
         number_at(self.coefs.as_slice(), j)
     }

@@ -1,25 +1,25 @@
 //! All columns are eliminated, and what stands at the end is the answer.
 ghost use Rattle.std.specs.Prelude.{◌≡◌, ℤ, ◌<◌, ◌-◌, ◌≤◌, List, Ok, All, length};
-ghost use Rattle.lin_terms.specs.Row.{IsNarrow, IsNarrowRow, HaveOneLength, columns_of};
+ghost use Rattle.lin_terms.specs.Bounds.{FitsRow};
+ghost use Rattle.lin_terms.specs.Row.{IsFittingRow, HasPoint, HaveOneLength, columns_of};
 ghost use Rattle.farkas_check.specs.Refutes.{Refutes, IsRefutable};
 ghost use Rattle.elimination.specs.declared.answer.Answer.TheVariants.{Refuted, NotRefutable};
 ghost use Rattle.elimination.specs.Column.{projected};
 ghost use Rattle.elimination.specs.Joining.{list_of};
-ghost use Rattle.elimination.specs.Eliminated.{initial, eliminate, eliminated};
+ghost use Rattle.elimination.specs.Eliminated.{most_rows, initial, eliminate, eliminated};
 ghost use Rattle.elimination.specs.Outcome.{Joins, IsList, IsEnd, IsAnswer};
-ghost use Rattle.elimination.specs.Laws.{HasPoint};
 
 use crate::answer::{Answer, EarlyEnd, Limit};
 use crate::column::eliminate_column;
 use crate::combination::{Combination, Sum};
 use crate::joining::JoinedRows;
-use lin_terms::{Row, columns_of};
+use lin_terms::{MOST_ROWS, Row, columns_of};
 use std::alloc::Global;
 
 /// The given rows join a list, in order.
 fn join_given(rows: &mut JoinedRows, given: &[Row]) -> Result<(), EarlyEnd>
-    requires many { length given.now ≤ 4096 }
-    requires narrow { All IsNarrowRow given.now }
+    requires many { length given.now ≤ most_rows }
+    requires fits { All IsFittingRow given.now }
     ensures { Joins rows.old (initial 0 given.now) rows.new result }
 {
     let count = given.len() as u32;
@@ -32,8 +32,8 @@ fn join_given(rows: &mut JoinedRows, given: &[Row]) -> Result<(), EarlyEnd>
 
 /// A new list of the given rows.
 fn list_of_given(alloc: Global, cap: u32, given: &[Row]) -> Result<Vec<Combination>, EarlyEnd>
-    requires many { length given.now ≤ 4096 }
-    requires narrow { All IsNarrowRow given.now }
+    requires many { length given.now ≤ most_rows }
+    requires fits { All IsFittingRow given.now }
     ensures { IsList (list_of cap (initial 0 given.now)) result }
 {
     let mut rows = JoinedRows::new(alloc, cap);
@@ -73,8 +73,8 @@ fn eliminate_columns(
 
 /// All columns of the given rows are eliminated.
 fn eliminate(alloc: Global, cap: u32, given: &[Row]) -> Result<(), EarlyEnd>
-    requires many { length given.now ≤ 4096 }
-    requires narrow { All IsNarrowRow given.now }
+    requires many { length given.now ≤ most_rows }
+    requires fits { All IsFittingRow given.now }
     ensures { IsEnd (eliminate cap (columns_of given.now) 0 (list_of cap (initial 0 given.now)))
         result }
 {
@@ -85,10 +85,10 @@ fn eliminate(alloc: Global, cap: u32, given: &[Row]) -> Result<(), EarlyEnd>
 /// What the method answers. `decide` has the clauses that say what this means of the rows.
 fn answer(alloc: Global, rows: &[Row], cap: u32) -> Result<Answer, Limit>
     requires one_length { HaveOneLength rows.now }
-    requires narrow { All IsNarrowRow rows.now }
+    requires fits { All IsFittingRow rows.now }
     ensures { IsAnswer (eliminated rows.now cap) result }
 {
-    if rows.len() > 4096 {
+    if rows.len() > MOST_ROWS {
         return Err(Limit::ManyRows);
     }
     match eliminate(alloc, cap, rows) {
@@ -107,12 +107,12 @@ fn answer(alloc: Global, rows: &[Row], cap: u32) -> Result<Answer, Limit>
 /// meets both.
 pub fn decide(alloc: Global, rows: &[Row], cap: u32) -> Result<Answer, Limit>
     requires one_length { HaveOneLength rows.now }
-    requires narrow { All IsNarrowRow rows.now }
+    requires fits { All IsFittingRow rows.now }
     ensures exact { IsAnswer (eliminated rows.now cap) result }
 
     // Multipliers that are answered refute the rows, and otherwise there are none of any size.
     ensures refuted { (multipliers : List ℤ) → result ≡ Ok (Refuted multipliers)
-        → Refutes rows.now multipliers × All IsNarrow multipliers }
+        → Refutes rows.now multipliers × All FitsRow multipliers }
     ensures not_refutable { result ≡ Ok NotRefutable → ¬ IsRefutable rows.now }
     ensures point { result ≡ Ok NotRefutable → HasPoint rows.now }
 {

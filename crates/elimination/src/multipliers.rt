@@ -4,11 +4,11 @@
 ghost use Rattle.std.specs.Prelude.{◌≡◌, ℕ, ℤ, List, [], ◌<◌, ◌^◌, ◌-◌, ◌↔◌, ◌<ℤ◌, ◌+ℤ◌, ◌*ℤ◌, pos, map, IsTrue, unsigned_abs, All, IfOk, OnOk, length, replicate, ◌∷◌, ◌++◌};
 ghost use Rattle.std.specs.Int.{int_div_euclid};
 ghost use Rattle.lin_terms.specs.Divisor.{gcd_of, gcd_with};
-ghost use Rattle.lin_terms.specs.Row.{IsNarrow};
+ghost use Rattle.lin_terms.specs.Bounds.{FitsRow};
 ghost use Rattle.lin_terms.specs.Vectors.{plus, scaled};
 ghost use Rattle.elimination.specs.Sparse.{at, first_row, front_of, behind_row, IsRising, IsAdded, quotient_of, quotients_of, table};
 
-use lin_terms::gcd;
+use lin_terms::{WIDE_ROW, gcd};
 use sqlite_items::Items;
 use std::alloc::{AllocError, Global};
 use std::marker::Model;
@@ -47,14 +47,14 @@ impl Model for Multipliers {
 pub struct Weights {
     pub first: i128,
     pub second: i128,
-    ghost first_fits: { IsNarrow first },
-    ghost second_fits: { IsNarrow second },
+    ghost first_fits: { FitsRow first },
+    ghost second_fits: { FitsRow second },
 }
 
-/// The product of two narrow numbers.
+/// The product of two numbers below 2^56 in size.
 pub fn product(x: &i128, y: &i128) -> i128
-    requires x_narrow { IsNarrow x.now }
-    requires y_narrow { IsNarrow y.now }
+    requires x_fits { FitsRow x.now }
+    requires y_fits { FitsRow y.now }
     ensures value { result ≡ x.now *ℤ y.now }
     ensures small { unsigned_abs result < 2 ^ 112 }
 {
@@ -73,8 +73,8 @@ fn first_row(entries: &[Multiplier], count: u32) -> u32
 
 /// A number times the multiplier of the row, where that stands in front.
 fn front_product(times: &i128, entries: &[Multiplier], row: u32) -> i128
-    requires times_narrow { IsNarrow times.now }
-    requires narrow { All (λ entry. IsNarrow entry.value) entries.now }
+    requires times_fits { FitsRow times.now }
+    requires fits { All (λ entry. FitsRow entry.value) entries.now }
     ensures value { result ≡ times.now *ℤ front_of row entries.now }
     ensures small { unsigned_abs result < 2 ^ 112 }
 {
@@ -97,8 +97,8 @@ fn behind_row(entries: &[Multiplier], row: u32) -> &[Multiplier]
 /// What the sum of two lists, each taken so often as its weight says, has for a row that stands in
 /// front or in neither.
 fn front_sum(weights: &Weights, ps: &[Multiplier], qs: &[Multiplier], row: u32) -> i128
-    requires ps_narrow { All (λ entry. IsNarrow entry.value) ps.now }
-    requires qs_narrow { All (λ entry. IsNarrow entry.value) qs.now }
+    requires ps_fits { All (λ entry. FitsRow entry.value) ps.now }
+    requires qs_fits { All (λ entry. FitsRow entry.value) qs.now }
     ensures { result ≡ (weights.now.first *ℤ front_of row ps.now)
         +ℤ (weights.now.second *ℤ front_of row qs.now) }
 {
@@ -123,8 +123,8 @@ fn sum_of_entries(
     ps: &[Multiplier],
     qs: &[Multiplier],
 ) -> Result<Vec<Multiplier>, AllocError>
-    requires ps_narrow { All (λ entry. IsNarrow entry.value) ps.now }
-    requires qs_narrow { All (λ entry. IsNarrow entry.value) qs.now }
+    requires ps_fits { All (λ entry. FitsRow entry.value) ps.now }
+    requires qs_fits { All (λ entry. FitsRow entry.value) qs.now }
     requires ps_rising { IsRising 0 count ps.now }
     requires qs_rising { IsRising 0 count qs.now }
     ensures rising { IfOk result (λ made. IsRising 0 count made.items) }
@@ -144,12 +144,12 @@ fn sum_of_entries(
 }
 
 /// Whether each multiplier is below 2^56 in size.
-fn are_narrow_entries(entries: &[Multiplier]) -> bool
-    ensures { IsTrue result ↔ All (λ entry. IsNarrow entry.value) entries.now }
+fn entries_fit(entries: &[Multiplier]) -> bool
+    ensures { IsTrue result ↔ All (λ entry. FitsRow entry.value) entries.now }
 {
     entries
         .iter()
-        .all(|entry| entry.value.unsigned_abs() < 1 << 56)
+        .all(|entry| entry.value.unsigned_abs() < WIDE_ROW)
 }
 
 /// A multiplier over a divisor, rounded down.
@@ -197,8 +197,8 @@ fn scaled_list(
     count: u32,
     entries: &[Multiplier],
 ) -> Result<Vec<i128>, AllocError>
-    requires times_narrow { IsNarrow times.now }
-    requires narrow { All (λ entry. IsNarrow entry.value) entries.now }
+    requires times_fits { FitsRow times.now }
+    requires fits { All (λ entry. FitsRow entry.value) entries.now }
     requires rising { IsRising 0 count entries.now }
     ensures { IfOk result (λ made. made.items ≡ scaled times.now (table 0 count entries.now)) }
 {
@@ -218,8 +218,8 @@ fn push_product(
     left: &[Multiplier],
     row: u32,
 ) -> Result<(), AllocError>
-    requires times_narrow { IsNarrow times.now }
-    requires narrow { All (λ entry. IsNarrow entry.value) left.now }
+    requires times_fits { FitsRow times.now }
+    requires fits { All (λ entry. FitsRow entry.value) left.now }
     ensures { OnOk result (made.new.items
         ≡ made.old.items ++ (times.now *ℤ front_of row left.now) ∷ []) }
 {
@@ -246,8 +246,8 @@ impl Multipliers {
         first: &Multipliers,
         second: &Multipliers,
     ) -> Result<Multipliers, AllocError>
-        requires first_narrow { All IsNarrow first.now }
-        requires second_narrow { All IsNarrow second.now }
+        requires first_fits { All FitsRow first.now }
+        requires second_fits { All FitsRow second.now }
         ensures { IfOk result (λ made. made
             ≡ plus (scaled weights.now.first first.now) (scaled weights.now.second second.now)) }
     {
@@ -266,10 +266,10 @@ impl Multipliers {
     }
 
     /// Whether each is below 2^56 in size.
-    pub fn are_narrow(&self) -> bool
-        ensures { IsTrue result ↔ All IsNarrow self.now }
+    pub fn fit(&self) -> bool
+        ensures { IsTrue result ↔ All FitsRow self.now }
     {
-        are_narrow_entries(self.entries.as_slice())
+        entries_fit(self.entries.as_slice())
     }
 
     /// All of them, over a divisor, rounded down.
@@ -294,8 +294,8 @@ impl Multipliers {
 
     /// All of them, each times a number.
     pub fn list(&self, alloc: Global, times: &i128) -> Result<Items<i128>, AllocError>
-        requires times_narrow { IsNarrow times.now }
-        requires narrow { All IsNarrow self.now }
+        requires times_fits { FitsRow times.now }
+        requires fits { All FitsRow self.now }
         ensures { IfOk result (λ made. made ≡ scaled times.now self.now) }
     {
         let made = scaled_list(alloc, times, self.count, self.entries.as_slice())?;

@@ -3,7 +3,7 @@ use Rattle.std.specs.Prelude.{ℤ}
 use Rattle.lin_terms.specs.Vectors.{scaled}
 use Rattle.elimination.specs.declared.multipliers.Multiplier.{Multiplier}
 use Rattle.elimination.specs.Sparse.{table, IsRising}
-use Rattle.elimination.proofs.Merging.{AreNarrowEntries, narrow_behind}
+use Rattle.elimination.proofs.Merging.{AreFittingEntries, fitting_behind}
 use Rattle.elimination.proofs.Tables.{list_step, rising_step}
 use Rattle.elimination.proofs.multipliers.scaled_list.Goals as goal
 
@@ -23,5 +23,5 @@ loop-row-preserved c =
           c.in_ok-push_product.ensures);
       rising = subst (λ (rest : List Multiplier). IsRising (row + 1) count rest) behind
           (rising_step row count left c.loop-row-test.true c.loop-row.invariant.rising);
-      narrow = subst AreNarrowEntries behind (narrow_behind row left c.loop-row.invariant.narrow);
+      fits = subst AreFittingEntries behind (fitting_behind row left c.loop-row.invariant.fits);
     }

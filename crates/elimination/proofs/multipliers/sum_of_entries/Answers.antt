@@ -4,7 +4,7 @@ use Rattle.std.specs.Int.{w128}
 use Rattle.std.proofs.lemmas.Int.{to_z-of_z}
 use Rattle.elimination.specs.declared.multipliers.Multiplier.{Multiplier}
 use Rattle.elimination.specs.Sparse.{at, behind_row, IsAdded}
-use Rattle.elimination.proofs.Merging.{next_row, shorter, IsMerging, merging_step, merging_ends, AreNarrowEntries, narrow_behind}
+use Rattle.elimination.proofs.Merging.{next_row, shorter, IsMerging, merging_step, merging_ends, AreFittingEntries, fitting_behind}
 use Rattle.elimination.proofs.multipliers.sum_of_entries.Goals as goal
 use Rattle.elimination.proofs.multipliers.sum_of_entries.Goals.{then-not-is_empty, else-not-is_empty+then-not-is_empty-2}
 
@@ -40,8 +40,8 @@ loop-ps_left-preserved c =
     record {
       merging = subst (IsMerging k l count target after c.behind_row-ps_left.result.now) (sym c.behind_row-qs_left.ensures)
           (subst (λ rest. IsMerging k l count target after rest (behind_row n qs)) (sym c.behind_row-ps_left.ensures) step);
-      ps_narrow = subst AreNarrowEntries (sym c.behind_row-ps_left.ensures) (narrow_behind n ps c.loop-ps_left.invariant.ps_narrow);
-      qs_narrow = subst AreNarrowEntries (sym c.behind_row-qs_left.ensures) (narrow_behind n qs c.loop-ps_left.invariant.qs_narrow);
+      ps_fits = subst AreFittingEntries (sym c.behind_row-ps_left.ensures) (fitting_behind n ps c.loop-ps_left.invariant.ps_fits);
+      qs_fits = subst AreFittingEntries (sym c.behind_row-qs_left.ensures) (fitting_behind n qs c.loop-ps_left.invariant.qs_fits);
     }
 
 pub returns-clause-rising : goal.returns-clause-rising

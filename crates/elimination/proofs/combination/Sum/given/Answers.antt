@@ -16,4 +16,4 @@ invariant_of-result c =
     (c.args.count - c.args.before - 1) c.args.row.now = search rules in
     subst IsSmallCombination (sym (ap (λ (z : ℤ). combination_of c.from_vec.result z c.args.row.now.equality c.in_ok-multipliers.multipliers)
     (to_z-of_z w128 constant fits) ∙ is))
-    (small_given c.args.before (c.args.count - c.args.before - 1) c.args.row.now c.requires.narrow)
+    (small_given c.args.before (c.args.count - c.args.before - 1) c.args.row.now c.requires.fits)

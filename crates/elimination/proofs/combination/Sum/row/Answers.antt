@@ -12,4 +12,4 @@ returns c =
     let fits : FitsSigned w128 constant = search rules in
     ap (λ (z : ℤ). Some (combination_of c.self.inside.coefs z c.self.inside.equality c.self.inside.multipliers)) (to_z-of_z w128 constant fits)
     ∙ ap (λ (row : Combination). Some row) c.self.view_is
-    ∙ sym (some_row c.args.self c.is_narrow.result c.is_narrow.ensures c.if-not-is_narrow.false)
+    ∙ sym (some_row c.args.self c.fits.result c.fits.ensures c.if-not-fits.false)

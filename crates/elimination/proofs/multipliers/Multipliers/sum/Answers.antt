@@ -1,20 +1,20 @@
 use Rattle.std.proofs.Common.{arith, List, sym, subst, ◌∙◌, ap}
 use Rattle.elimination.specs.declared.multipliers.Multiplier.{Multiplier}
 use Rattle.elimination.specs.Sparse.{table, IsRising}
-use Rattle.elimination.proofs.Merging.{AreNarrowEntries, rising_higher}
-use Rattle.elimination.proofs.Tables.{narrow_entries}
+use Rattle.elimination.proofs.Merging.{AreFittingEntries, rising_higher}
+use Rattle.elimination.proofs.Tables.{fitting_entries}
 use Rattle.elimination.proofs.Weighted.{table-sum}
 use Rattle.elimination.proofs.multipliers.Multipliers.sum.Goals as goal
 
-pub sum_of_entries-requires-clause-ps_narrow : goal.sum_of_entries-requires-clause-ps_narrow
-sum_of_entries-requires-clause-ps_narrow c =
-    subst AreNarrowEntries (sym c.as_slice.ensures)
-    (narrow_entries c.first.inside.count c.first.inside.entries c.args.first.now c.first.invariant c.first.view_is c.requires.first_narrow)
+pub sum_of_entries-requires-clause-ps_fits : goal.sum_of_entries-requires-clause-ps_fits
+sum_of_entries-requires-clause-ps_fits c =
+    subst AreFittingEntries (sym c.as_slice.ensures)
+    (fitting_entries c.first.inside.count c.first.inside.entries c.args.first.now c.first.invariant c.first.view_is c.requires.first_fits)
 
-pub sum_of_entries-requires-clause-qs_narrow : goal.sum_of_entries-requires-clause-qs_narrow
-sum_of_entries-requires-clause-qs_narrow c =
-    subst AreNarrowEntries (sym c.as_slice-2.ensures)
-    (narrow_entries c.second.inside.count c.second.inside.entries c.args.second.now c.second.invariant c.second.view_is c.requires.second_narrow)
+pub sum_of_entries-requires-clause-qs_fits : goal.sum_of_entries-requires-clause-qs_fits
+sum_of_entries-requires-clause-qs_fits c =
+    subst AreFittingEntries (sym c.as_slice-2.ensures)
+    (fitting_entries c.second.inside.count c.second.inside.entries c.args.second.now c.second.invariant c.second.view_is c.requires.second_fits)
 
 pub sum_of_entries-requires-clause-ps_rising : goal.sum_of_entries-requires-clause-ps_rising
 sum_of_entries-requires-clause-ps_rising c =
