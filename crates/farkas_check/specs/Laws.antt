@@ -15,12 +15,15 @@ RefutableRowsHaveNoIntegerPoint = (rows : List Row) → IsRefutable rows → Has
 
 -- A row that is taken 0 times changes nothing, wherever it stands.
 abbrev pub IdleRowsChangeNothing : Type 0
-IdleRowsChangeNothing = (before behind : List Row) (row : Row) (multipliers others : List ℤ) → length multipliers ≡ length before
-    → Refutes (before ++ behind) (multipliers ++ others) ↔ Refutes (before ++ row ∷ behind) (multipliers ++ pos 0 ∷ others)
+IdleRowsChangeNothing = (before behind : List Row) (row : Row) (multipliers others : List ℤ)
+    → length multipliers ≡ length before
+    → Refutes (before ++ behind) (multipliers ++ others)
+    ↔ Refutes (before ++ row ∷ behind) (multipliers ++ pos 0 ∷ others)
 
 -- Rows that are refutable stay so when another row stands among them.
 abbrev pub MoreRowsAreRefutable : Type 0
-MoreRowsAreRefutable = (before behind : List Row) (row : Row) → IsRefutable (before ++ behind) → IsRefutable (before ++ row ∷ behind)
+MoreRowsAreRefutable = (before behind : List Row) (row : Row) → IsRefutable (before ++ behind)
+    → IsRefutable (before ++ row ∷ behind)
 
 -- The rows are the same, but that the one may have more columns of zeros.
 pub record AreAlike (first second : Row) : Type 0 where
@@ -30,5 +33,5 @@ pub record AreAlike (first second : Row) : Type 0 where
 
 -- Columns of zeros change nothing.
 abbrev pub AlikeRowsAreRefuted : Type 0
-AlikeRowsAreRefuted = (rows others : List Row) (multipliers : List ℤ) → AllZip AreAlike rows others → Refutes rows multipliers
-    → Refutes others multipliers
+AlikeRowsAreRefuted = (rows others : List Row) (multipliers : List ℤ) → AllZip AreAlike rows others
+    → Refutes rows multipliers → Refutes others multipliers

@@ -2,7 +2,6 @@
 use Rattle.std.specs.Prelude.{◌≡◌, ℕ, ◌+◌, ◌<◌, ◌≤◌, ℤ, pos, negsuc, ◌≤ℤ◌, Bool, List, length, map, slice_index_or, All}
 use Rattle.std.specs.Bool.{OnFalse}
 use Rattle.std.specs.List.{AllZip}
-use Rattle.farkas_check.specs.declared.sums.TheConstants.{WIDTH}
 use Rattle.lin_terms.specs.declared.row.Row.{Row}
 use Rattle.lin_terms.specs.Bounds.{FitsRow}
 use Rattle.lin_terms.specs.Vectors.{dot}
@@ -31,10 +30,10 @@ pub record Refutes (rows : List Row) (multipliers : List ℤ) : Type 0 where
   pub no_variable : (j : ℕ) → dot multipliers (column j rows) ≡ pos 0
   pub negative_constant : dot multipliers (constants rows) ≤ℤ negsuc 0
 
--- The same, where of the columns only those of a block are looked at: `first` and those behind it.
+-- The same, where of the columns only those of a block of 32 are looked at: `first` and those behind it.
 pub record RefutesBlock (first : ℕ) (rows : List Row) (multipliers : List ℤ) : Type 0 where
   pub signs : AllZip MayMultiply rows multipliers
-  pub no_variable : (k : ℕ) → k < WIDTH → dot multipliers (column (first + k) rows) ≡ pos 0
+  pub no_variable : (k : ℕ) → k < 32 → dot multipliers (column (first + k) rows) ≡ pos 0
   pub negative_constant : dot multipliers (constants rows) ≤ℤ negsuc 0
 
 -- Some multipliers, of any size, refute the rows.

@@ -96,7 +96,8 @@ fn small_rows(rt: HostRuntime) -> Result<(), Fail> {
     Ok(())
 }
 
-/// 4,096 rows that have only their last column, whose entries add up to 0, and the greatest entries and multipliers.
+/// 4,096 rows that have only their last column, whose entries add up to 0, and the greatest entries
+/// and multipliers.
 #[test]
 fn many_rows_and_columns(rt: HostRuntime) -> Result<(), Fail> {
     let alloc = rt.alloc();

@@ -37,8 +37,8 @@ pub trait Rows {
 
 /// Rows that stand in memory.
 #[derive(Clone, Copy)]
-pub struct Listed<'a> {
-    pub rows: &'a [Row],
+pub(crate) struct Listed<'a> {
+    pub(crate) rows: &'a [Row],
 }
 
 fn entry_of(row: &Row, j: usize) -> i64

@@ -1,4 +1,5 @@
--- Linear forms: their values, sums, differences and multiples, their products where one is constant, and forms over forms.
+-- Linear forms: their values, sums, differences and multiples, products where one form is constant, and forms over
+-- forms.
 use Rattle.std.specs.Prelude.{ℕ, ℤ, pos, negsuc, ◌+ℤ◌, ◌*ℤ◌, Bool, ◌==◌, if◌then◌else◌, replicate, unsigned_abs, List, [], ◌∷◌, map, slice_index_or, Option, Some, None}
 use Rattle.std.specs.List.{list_all}
 use Rattle.lin_terms.specs.declared.form.Form.{Form}

@@ -40,7 +40,8 @@ DotOfOne = (count i : ℕ) (entry : ℤ) (values : List ℤ) → i < count
 -- from one place on: the product there, and those behind it
 abbrev pub DotOfRest : Type 0
 DotOfRest = (xs ys : List ℤ) (i : ℕ) → i < length xs
-    → dot (drop i xs) (drop i ys) ≡ (slice_index_or xs i (pos 0) *ℤ slice_index_or ys i (pos 0)) +ℤ dot (drop (i + 1) xs) (drop (i + 1) ys)
+    → dot (drop i xs) (drop i ys)
+    ≡ (slice_index_or xs i (pos 0) *ℤ slice_index_or ys i (pos 0)) +ℤ dot (drop (i + 1) xs) (drop (i + 1) ys)
 
 -- ---- entries and lengths
 
@@ -51,7 +52,8 @@ EntryOfSum = (xs ys : List ℤ) (j : ℕ)
 
 -- an entry of the multiples
 abbrev pub EntryOfMultiple : Type 0
-EntryOfMultiple = (k : ℤ) (xs : List ℤ) (j : ℕ) → slice_index_or (scaled k xs) j (pos 0) ≡ k *ℤ slice_index_or xs j (pos 0)
+EntryOfMultiple = (k : ℤ) (xs : List ℤ) (j : ℕ)
+    → slice_index_or (scaled k xs) j (pos 0) ≡ k *ℤ slice_index_or xs j (pos 0)
 
 -- an entry of so many zeros
 abbrev pub EntryOfReplicated : Type 0
@@ -86,7 +88,8 @@ DivisorOfJoined = (g : ℕ) (xs ys : List ℤ) → gcd_with g (xs ++ ys) ≡ gcd
 
 -- lists with the same divisors have the same greatest one
 abbrev pub SameDivisors : Type 0
-SameDivisors = (xs ys : List ℤ) → ((d : ℕ) → DividesAll d xs → DividesAll d ys) → ((d : ℕ) → DividesAll d ys → DividesAll d xs)
+SameDivisors = (xs ys : List ℤ) → ((d : ℕ) → DividesAll d xs → DividesAll d ys)
+    → ((d : ℕ) → DividesAll d ys → DividesAll d xs)
     → gcd_of xs ≡ gcd_of ys
 
 -- the quotient by a divisor is exact
@@ -139,5 +142,6 @@ WholeNumbersAreFractions = (values : List ℤ) (row : Row) → Holds values row 
 
 -- a row that is no wider than another is below each bound that the other is below
 abbrev pub NoWiderIsBelow : Type 0
-NoWiderIsBelow = (first second : Row) (bound : ℕ) → 0 < bound → IsNoWider first second → length first.coefs ≡ length second.coefs
+NoWiderIsBelow = (first second : Row) (bound : ℕ) → 0 < bound → IsNoWider first second
+    → length first.coefs ≡ length second.coefs
     → EntriesAreBelow bound second → EntriesAreBelow bound first

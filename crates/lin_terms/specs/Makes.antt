@@ -29,8 +29,8 @@ MakesRow (Ok row) wanted = wanted ≡ Some row
 MakesRow (Err fault.WideForm) wanted = wanted ≡ None
 MakesRow (Err fault.Memory) wanted = Unit {0}
 
--- The call makes the product, where there is one and its entries are below 2^50 in size. It refuses it as not linear exactly
--- where there is none, and as wide exactly where there is one that has a greater entry, unless memory runs out.
+-- The call makes the product, where there is one and its entries are below 2^50 in size. It refuses it as not linear
+-- exactly where there is none, and as wide exactly where there is one with a greater entry, unless memory runs out.
 abbrev pub MakesProduct : Result Form ProductFault → Option Form → Type 0
 MakesProduct (Ok form) None = ⊥
 MakesProduct (Ok form) (Some product) = fitting product ≡ Some form

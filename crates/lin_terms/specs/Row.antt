@@ -45,7 +45,8 @@ pub record IsFittingRow (row : Row) : Type 0 where
 
 -- No entry of the first row is greater in size than the one at its place in the second.
 pub record IsNoWider (first second : Row) : Type 0 where
-  pub coefs : (j : ℕ) → unsigned_abs (slice_index_or first.coefs j (pos 0)) ≤ unsigned_abs (slice_index_or second.coefs j (pos 0))
+  pub coefs : (j : ℕ)
+      → unsigned_abs (slice_index_or first.coefs j (pos 0)) ≤ unsigned_abs (slice_index_or second.coefs j (pos 0))
   pub constant : unsigned_abs first.constant ≤ unsigned_abs second.constant
 
 -- No variable stands in the row, and the answer says whether the row holds, whatever the values are.

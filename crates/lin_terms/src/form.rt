@@ -1,5 +1,5 @@
-//! A form has a coefficient for each variable, by number, and a constant. What the calls of this crate make has
-//! entries below 2^50 in size; what they are given may have any entries.
+//! A form has a coefficient for each variable, by number, and a constant. What the calls of this
+//! crate make has entries below 2^50 in size; what they are given may have any entries.
 ghost use Rattle.std.specs.Prelude.{◌≡◌, ◌<◌, ◌≤◌, ◌^◌, ◌↔◌, ℤ, ◌+ℤ◌, ◌-ℤ◌, ◌*ℤ◌, List, length, slice_index_or, pos, unsigned_abs, replicate, All, IsTrue, IfOk};
 ghost use Rattle.lin_terms.specs.Bounds.{FitsForm, fits_form, fit_form};
 ghost use Rattle.lin_terms.specs.Vectors.{plus, scaled};

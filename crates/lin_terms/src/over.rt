@@ -1,7 +1,7 @@
 //! Forms that take the places of variables.
 //!
-//! An entry is judged when all its products are added up: 2^30 times 2^30 less the same is 0, which is not wide. The sums
-//! are made in 128 bits.
+//! An entry is judged when all its products are added up: 2^30 times 2^30 less the same is 0, which
+//! is not wide. The sums are made in 128 bits.
 ghost use Rattle.std.specs.Prelude.{◌≡◌, ◌≤◌, ℤ, ◌+ℤ◌, ◌*ℤ◌, ◌<◌, ◌^◌, List, All, length, map, pos, unsigned_abs, slice_index_or, false, [], ◌∷◌, ◌++◌, Err, IsTrue, IfOk, OnOk};
 ghost use Rattle.lin_terms.specs.Bounds.{FitsForm, fits_form, fit_form};
 ghost use Rattle.lin_terms.specs.declared.fault.FormFault.TheVariants.{WideForm};
@@ -31,8 +31,8 @@ fn coef_at(form: &Form, j: usize) -> i64
     if j < coefs.len() { coefs[j] } else { 0 }
 }
 
-/// The sum of the forms' coefficients of variable `j`, each times the coefficient that stands at the form's place. Takes no
-/// memory.
+/// The sum of the forms' coefficients of variable `j`, each times the coefficient that stands at
+/// the form's place. Takes no memory.
 pub fn coef_over(coefs: &[i64], at: &[Form], j: usize) -> i128
     requires { CanTakePlaces coefs.now at.now }
     ensures value { result ≡ dot coefs.now (entries_at j at.now) }
@@ -45,7 +45,8 @@ pub fn coef_over(coefs: &[i64], at: &[Form], j: usize) -> i128
     sum
 }
 
-/// The sum of the forms' constants, each times the coefficient that stands at the form's place. Takes no memory.
+/// The sum of the forms' constants, each times the coefficient that stands at the form's place.
+/// Takes no memory.
 pub fn constant_over(coefs: &[i64], at: &[Form]) -> i128
     requires { CanTakePlaces coefs.now at.now }
     ensures value { result ≡ dot coefs.now (constants_of at.now) }
@@ -76,7 +77,8 @@ fn coefs_over(
     requires lengths { All (λ form. length form.coefs ≤ columns) at.now }
     ensures made { IfOk result (λ made. made.items ≡ composed_coefs columns coefs.now at.now) }
     ensures fit { IfOk result (λ _. IsTrue (fit_form (composed_coefs columns coefs.now at.now))) }
-    ensures wide { result ≡ Err WideForm → fit_form (composed_coefs columns coefs.now at.now) ≡ false }
+    ensures wide { result ≡ Err WideForm
+        → fit_form (composed_coefs columns coefs.now at.now) ≡ false }
 {
     let mut made = Vec::with_capacity(alloc, columns)?;
     for j in 0..columns {
@@ -96,8 +98,8 @@ fn composed_constant(form: &Form, at: &[Form]) -> i128
     constant_over(form.coefs.as_slice(), at) + i128::from(form.constant)
 }
 
-/// The form over `columns` variables that `form` is once the forms `at` take the places of its variables, by number. A
-/// form that has fewer coefficients has zeros behind them.
+/// The form over `columns` variables that `form` is once the forms `at` take the places of its
+/// variables, by number. A form that has fewer coefficients has zeros behind them.
 ///
 /// Example: `2x - y + 1` at `u + 1` and `u - v` is `u + v + 3`.
 pub fn compose(alloc: Global, columns: usize, form: &Form, at: &[Form]) -> Result<Form, FormFault>

@@ -70,8 +70,9 @@ impl Point {
             && is_fitting_row(row)
     }
 
-    /// Whether the row holds at the point. It answers exactly where the row has at most 1,024 columns and entries below 2^56
-    /// in size, and the point's numbers and its denominator are below 2^60 in size. Takes no memory.
+    /// Whether the row holds at the point. It answers exactly where the row has at most 1,024
+    /// columns and entries below 2^56 in size, and the point's numbers and its denominator are
+    /// below 2^60 in size. Takes no memory.
     ///
     /// Example: `2x - 1 = 0` holds at 1 over 2, and `x - 1 >= 0` does not.
     pub fn meets(&self, row: &Row) -> Option<bool>

@@ -1,7 +1,8 @@
 //! Rows: linear inequalities and equalities over the variables of a place, and tight rows.
 //!
-//! Whole numbers that meet `4x - 6y + 3 >= 0` meet the tight row `2x - 3y + 1 >= 0`, since `2x - 3y` is a whole number
-//! and at least -3/2. No whole numbers meet `4x - 6y + 3 = 0`, since `4x - 6y` is even.
+//! Whole numbers that meet `4x - 6y + 3 >= 0` meet the tight row `2x - 3y + 1 >= 0`, since `2x -
+//! 3y` is a whole number and at least -3/2. No whole numbers meet `4x - 6y + 3 = 0`, since `4x -
+//! 6y` is even.
 ghost use Rattle.std.specs.Prelude.{◌≡◌, ℕ, ◌<◌, ◌↔◌, Bool, false, length, map, replicate, pos, All, IsTrue, IfOk, MatchOption};
 ghost use Rattle.lin_terms.specs.Bounds.{FitsRow};
 ghost use Rattle.lin_terms.specs.Divisor.{floor_div};
@@ -14,7 +15,8 @@ use crate::form::{are_zeros, zeros};
 use sqlite_items::Items;
 use std::alloc::{AllocError, Global};
 
-/// `coefs · v + constant >= 0`, or `= 0` where it is an equality. There is a coefficient for each variable, by number.
+/// `coefs · v + constant >= 0`, or `= 0` where it is an equality. There is a coefficient for each
+/// variable, by number.
 #[derive(Debug, Drop)]
 pub struct Row {
     pub coefs: Items<i64>,
@@ -37,7 +39,8 @@ impl Row {
         constant: i64,
         equality: bool,
     ) -> Result<Row, AllocError>
-        ensures { IfOk result (λ row. row ≡ record { coefs = coefs.now; constant = constant; equality = equality }) }
+        ensures { IfOk result (λ row. row
+            ≡ record { coefs = coefs.now; constant = constant; equality = equality }) }
     {
         let coefs = Items::from_slice(alloc, coefs)?;
         Ok(Row {
@@ -75,7 +78,7 @@ pub const WIDE_ROW: u128 = 1 << 56;
 pub const MOST_ROWS: usize = 4096;
 
 /// Whether all the multipliers are below 2^56 in size.
-pub fn fit_rows(multipliers: &[i128]) -> bool
+pub fn are_fitting_multipliers(multipliers: &[i128]) -> bool
     ensures { IsTrue result ↔ All FitsRow multipliers.now }
 {
     multipliers
@@ -83,7 +86,8 @@ pub fn fit_rows(multipliers: &[i128]) -> bool
         .all(|multiplier| multiplier.unsigned_abs() < WIDE_ROW)
 }
 
-/// The number of columns of rows of one length: as many as the first has, and 0 where there is no row.
+/// The number of columns of rows of one length: as many as the first has, and 0 where there is no
+/// row.
 pub fn columns_of(rows: &[Row]) -> usize
     ensures { result ≡ columns_of rows.now }
 {
@@ -178,8 +182,9 @@ fn made_tight(alloc: Global, row: &Row) -> Result<Row, AllocError>
     divided_row(alloc, row, divisor)
 }
 
-/// The row over the greatest common divisor of its coefficients, with its constant rounded down. An equality whose
-/// constant that divisor does not divide becomes the row `-1 >= 0` over the same columns. A row without variables stays.
+/// The row over the greatest common divisor of its coefficients, with its constant rounded down. An
+/// equality whose constant that divisor does not divide becomes the row `-1 >= 0` over the same
+/// columns. A row without variables stays.
 pub fn tight(alloc: Global, row: &Row) -> Result<Row, AllocError>
     ensures exact { IfOk result (λ made. made ≡ tight_of row.now) }
     ensures keeps { IfOk result (λ made. HaveSameSolutions made row.now) }

@@ -79,8 +79,8 @@ fn sign_row(alloc: Global, form: &Form, sign: Sign) -> Result<Row, FormFault>
     })
 }
 
-/// The tight row that says that the form has the sign. It is refused as wide where an entry of the row reaches 2^50 in
-/// size before the row is made tight.
+/// The tight row that says that the form has the sign. It is refused as wide where an entry of the
+/// row reaches 2^50 in size before the row is made tight.
 ///
 /// Example: `4x - 6y + 3` is positive exactly where `2x - 3y + 1 >= 0` holds, and never 0.
 pub fn tight_row(alloc: Global, form: &Form, sign: Sign) -> Result<Row, FormFault>

@@ -146,8 +146,8 @@ fn divisors(rt: HostRuntime) -> Result<(), Fail> {
 /// 2^56, the least entry that is wide in a row.
 const WIDE_IN_ROWS: i64 = 1 << 56;
 
-/// Coefficients and constant of each row, how many columns there are, whether the rows have one length, and whether they
-/// fit.
+/// Coefficients and constant of each row, how many columns there are, whether the rows have one
+/// length, and whether they fit.
 const SHAPES: [(&[(&'static [i64], i64)], usize, bool, bool); 7] = [
     (&[], 0, true, true),
     (&[(&[], 1)], 0, true, true),
