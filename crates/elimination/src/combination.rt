@@ -12,7 +12,7 @@ ghost use Rattle.elimination.specs.Eliminated.{given_row};
 ghost use Rattle.elimination.specs.Working.{IsFittingCombination, IsSmallCombination};
 
 use crate::multipliers::{Multipliers, Weights, product};
-use lin_terms::{Row, WIDE_ROW, fit_rows, gcd};
+use lin_terms::{Row, WIDE_ROW, are_fitting_multipliers, gcd};
 use sqlite_items::Items;
 use std::alloc::{AllocError, Global};
 use std::marker::Model;
@@ -224,7 +224,7 @@ impl Sum {
         ensures { IsTrue result ↔ IsFittingCombination self.now }
     {
         self.constant.unsigned_abs() < WIDE_ROW
-            && fit_rows(self.coefs.as_slice())
+            && are_fitting_multipliers(self.coefs.as_slice())
             && self.multipliers.fit()
     }
 
