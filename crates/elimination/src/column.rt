@@ -1,4 +1,8 @@
-//! One column is eliminated.
+//! One column is eliminated: rows that do not have it join a new list.
+//!
+//! Where an equality has the column, its multiples are added to the other rows (Gauss). Otherwise
+//! the rows without the column join as they are, and then each lower bound of the variable is added
+//! to each upper bound, in order (Fourier, Motzkin).
 ghost use Rattle.std.specs.Prelude.{◌≡◌, IfOk, OnOk, map, position, neg_ℤ, ◌*ℤ◌, [], ◌∷◌, ◌++◌};
 ghost use Rattle.lin_terms.specs.Bounds.{FitsRow};
 ghost use Rattle.elimination.specs.Combination.{Combination, entry, is_zero, is_positive, is_negative, sign, size};

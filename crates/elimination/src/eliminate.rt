@@ -1,4 +1,7 @@
 //! All columns are eliminated, and what stands at the end is the answer.
+//!
+//! The given rows join a first list. From each list the rows without the next column are made,
+//! which join a new one. Where no column is left, no row is: the given rows are not refutable.
 ghost use Rattle.std.specs.Prelude.{◌≡◌, ℤ, ◌<◌, ◌-◌, ◌≤◌, List, Ok, All, length};
 ghost use Rattle.lin_terms.specs.Bounds.{FitsRow};
 ghost use Rattle.lin_terms.specs.Row.{IsFittingRow, HasPoint, HaveOneLength, columns_of};

@@ -1,4 +1,8 @@
 //! A list of rows that others join, one after the other.
+//!
+//! A row joins over the greatest common divisor of its numbers. A row without variables is left
+//! out, or is a contradiction. Of parallel inequalities the one that says more stays, in the place
+//! of the first. What is too wide, or too many, ends the elimination.
 ghost use Rattle.std.specs.Prelude.{◌≡◌, [], ◌∷◌, List, position, OnOk};
 ghost use Rattle.elimination.specs.Joining.{is_parallel, placed, added, counted, kept};
 ghost use Rattle.elimination.specs.Outcome.{Leaves, Joins};

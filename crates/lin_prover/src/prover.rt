@@ -8,8 +8,8 @@ use lin_terms::Row;
 use std::alloc::Global;
 
 /// Whether some multipliers refute the rows (Farkas' lemma). The rows have one length, and entries
-/// below 2^56 in size. Where no multipliers refute them, some fractions meet them all. A limit comes
-/// only where elimination with this cap meets it; any cap may be given.
+/// below 2^56 in size. Where no multipliers refute them, some fractions meet them all. A limit
+/// comes only where elimination with this cap meets it; any cap may be given.
 ///
 /// Example: the multipliers 1 and 1 refute `x - 1 >= 0` and `-x >= 0`.
 /// `2x - 1 >= 0` and `1 - 2x >= 0` are not refutable, since 1/2 meets both.
