@@ -14,7 +14,10 @@ use Rattle.elimination.specs.Joining.{list_of}
 
 -- a given row: its own multiplier is 1, those of the rows before it and of the rows behind it are 0
 abbrev pub given_row : ℕ → ℕ → Row → Combination
-given_row before behind row = record { row = row; multipliers = replicate before (pos 0) ++ pos 1 ∷ replicate behind (pos 0) }
+given_row before behind row = record {
+  row = row;
+  multipliers = replicate before (pos 0) ++ pos 1 ∷ replicate behind (pos 0);
+}
 
 -- each given row once, where `before` rows stand before these
 abbrev pub initial : ℕ → List Row → List Combination

@@ -12,7 +12,8 @@ use Rattle.elimination.specs.Joining.{list_of}
 use Rattle.elimination.specs.Made.{IsMade}
 use Rattle.elimination.specs.Eliminated.{initial, eliminate, eliminated}
 
--- Each row of each list that is made is the sum of the given rows, each times its multiplier; `left` columns were eliminated.
+-- Each row of each list that is made is the sum of the given rows, each times its multiplier. The list is the one that
+-- is left where `left` columns are eliminated.
 abbrev pub LawOfMultipliers : Type 0
 LawOfMultipliers = (given : List Row) (cap left : ℕ) (rows : List Combination)
     → eliminate cap left 0 (list_of cap (initial 0 given)) ≡ Ok rows → All (IsMade given) rows

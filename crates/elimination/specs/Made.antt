@@ -5,8 +5,8 @@ use Rattle.lin_terms.specs.Vectors.{dot}
 use Rattle.farkas_check.specs.Refutes.{column, constants}
 use Rattle.elimination.specs.Combination.{Combination, entry}
 
--- The multiplier may be that of a given row: any number at an equality; at an inequality 0 where an equality is made, and
--- otherwise no negative number.
+-- The multiplier may be that of a given row: any number at an equality; at an inequality 0 where an equality is made,
+-- and otherwise no negative number.
 abbrev pub IsMadeSign : Bool → Bool → ℤ → Type 0
 IsMadeSign made true m = Unit {0}
 IsMadeSign true false m = m ≡ pos 0
