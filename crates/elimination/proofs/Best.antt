@@ -3,8 +3,8 @@ use Rattle.std.proofs.Common.{◌≡◌, zero, suc, List, [], ◌∷◌, arith, 
 use Rattle.std.specs.Prelude.{ℤ, pos, negsuc, ◌+ℤ◌, ◌*ℤ◌, ◌-ℤ◌, ◌≤ℤ◌, ◌<ℤ◌}
 use Rattle.std.specs.List.{AllByRecursion}
 use Rattle.std.proofs.lemmas.Int.{ints, by_lt_z}
-use Rattle.lin_terms.proofs.Ring.{as_dif, same_dif, difs}
-use Rattle.lin_terms.proofs.Signs.{nonneg_add, nonneg_mul}
+use Rattle.elimination.proofs.Ring.{as_dif, same_dif, difs}
+use Rattle.lin_terms.proofs.Laws.{nonneg_add, nonneg_mul}
 
 -- a positive factor is cancelled
 nonneg_cancel : (q a : ℤ) → pos 0 <ℤ q → pos 0 ≤ℤ (q *ℤ a) → pos 0 ≤ℤ a
@@ -56,8 +56,10 @@ module _ {X : Type 0} (w s : X → ℤ) (Q : X → Type 0) where
   all_least : (m p : X) → pos 0 <ℤ w m → pos 0 <ℤ w p → pos 0 ≤ℤ ((s m *ℤ w p) -ℤ (w m *ℤ s p)) → (xs : List X)
       → AllByRecursion Good xs → AllByRecursion (IsLeast w s m) xs → AllByRecursion (IsLeast w s p) xs
   all_least m p m_positive p_positive below [] good least = tt
-  all_least m p m_positive p_positive below (x ∷ xs) good least =
-      (least_transitive (w p) (w m) (w x) (s p) (s x) (s m) p_positive m_positive good.0.0 least.0 below, all_least m p m_positive p_positive below xs good.1 least.1)
+  all_least m p m_positive p_positive below (x ∷ xs) good least = (
+    least_transitive (w p) (w m) (w x) (s p) (s x) (s m) p_positive m_positive good.0.0 least.0 below,
+    all_least m p m_positive p_positive below xs good.1 least.1,
+  )
 
   pub best : (x : X) (xs : List X) → AllByRecursion Good (x ∷ xs) → Best w s Q (x ∷ xs)
   best x [] good = record { element = x; positive = good.0.0; holds = good.0.1; least = (least_self (s x) (w x), tt) }

@@ -5,7 +5,7 @@ use Rattle.std.specs.List.{AllByRecursion}
 use Rattle.std.proofs.lemmas.Int.{ints}
 use Rattle.lin_terms.specs.Vectors.{scaled}
 use Rattle.lin_terms.specs.Row.{Allows, Meets}
-use Rattle.lin_terms.proofs.Ring.{as_dif, same_dif, difs, dif_pos}
+use Rattle.elimination.proofs.Ring.{as_dif, same_dif, difs, dif_pos}
 use Rattle.elimination.specs.Combination.{Combination, entry, is_zero, is_positive, is_negative, sign, size, combined}
 use Rattle.elimination.specs.Column.{pivot_of, reduced, paired, without, lower_bounds, upper_bounds, pairs, projected_by, projected}
 use Rattle.elimination.proofs.Lists.{all_by, all_weaker, all_front, all_back, all_of_map}
@@ -55,11 +55,13 @@ module _ (numbers : List ℤ) (d : ℤ) (j : ℕ) (inside : j < length numbers) 
   -- a row without the column keeps its value, k times
   flat : (k y : ℤ) → pos 0 <ℤ k → (row : Combination) → is_zero (entry j row) ≡ true → Meets numbers d row.row → HoldsAfter k y row
   flat k y positive row no_column met =
-      rw (zero_is (entry j row) no_column) (subst (Allows row.row.equality) (sym (flat_step k (value numbers d row) (get_or numbers j (pos 0)) y)) (allows_multiple row.row.equality k (value numbers d row) (omega (arith, ints)) met))
+      rw (zero_is (entry j row) no_column) (subst (Allows row.row.equality) (sym (flat_step k (value numbers d row) (get_or numbers j (pos 0)) y))
+      (allows_multiple row.row.equality k (value numbers d row) (omega (arith, ints)) met))
 
   flats : (k y : ℤ) → pos 0 <ℤ k → (rows : List Combination) → MeetsEach numbers d (without j rows) → AllByRecursion (HoldsAfter k y) (without j rows)
   flats k y positive rows met =
-      all_by (λ row. is_zero (entry j row) ≡ true) (λ row. Meets numbers d row.row) (HoldsAfter k y) (λ row zero holds. flat k y positive row zero holds) (without j rows) (all_without j rows) met
+      all_by (λ row. is_zero (entry j row) ≡ true) (λ row. Meets numbers d row.row) (HoldsAfter k y) (λ row zero holds. flat k y positive row zero holds)
+      (without j rows) (all_without j rows) met
 
   -- ---- an equality fixes the number
   abbrev fixed : Combination → ℤ
@@ -89,7 +91,8 @@ module _ (numbers : List ℤ) (d : ℤ) (j : ℕ) (inside : j < length numbers) 
       let is = pivot_is j rows picked found in
       let After : Combination → Type 0 = HoldsAfter (size (entry j picked.0)) (fixed picked.0) in
       picked_all j After rows picked found (pivot_holds picked.0 is.0)
-      (all_weaker (λ row. Meets numbers d (reduced j picked.0 row).row) After (λ row holds. reduced_holds picked.0 row (is_zero (entry j row)) is.1 refl holds) picked.1
+      (all_weaker (λ row. Meets numbers d (reduced j picked.0 row).row) After
+      (λ row holds. reduced_holds picked.0 row (is_zero (entry j row)) is.1 refl holds) picked.1
       (all_of_map (λ row. Meets numbers d row.row) (reduced j picked.0) picked.1 met))
 
   -- ---- with no equality: the greatest lower bound, or else the least upper bound, or else 0
@@ -109,7 +112,8 @@ module _ (numbers : List ℤ) (d : ℤ) (j : ℕ) (inside : j < length numbers) 
       let t : ℤ = rest row in
       let s : ℤ = rest m in
       let w : ℤ = weight m in
-      subst (λ b. Allows b ((w *ℤ t) +ℤ (a *ℤ neg_ℤ s))) (sym lower.1) (subst (λ z. pos 0 ≤ℤ z) (lower_step t w a s) (subst (λ z. pos 0 ≤ℤ ((t *ℤ w) -ℤ (z *ℤ s))) (size_of_positive a lower.0) least))
+      subst (λ b. Allows b ((w *ℤ t) +ℤ (a *ℤ neg_ℤ s))) (sym lower.1)
+      (subst (λ z. pos 0 ≤ℤ z) (lower_step t w a s) (subst (λ z. pos 0 ≤ℤ ((t *ℤ w) -ℤ (z *ℤ s))) (size_of_positive a lower.0) least))
 
   -- and each upper bound, since its pair with m holds
   paired_holds : (m row : Combination) → IsLowerBound j m → IsUpperBound j row → Meets numbers d (paired j m row).row
@@ -134,7 +138,8 @@ module _ (numbers : List ℤ) (d : ℤ) (j : ℕ) (inside : j < length numbers) 
       let t : ℤ = rest row in
       let s : ℤ = rest m in
       let w : ℤ = weight m in
-      subst (λ b. Allows b ((w *ℤ t) +ℤ (a *ℤ s))) (sym upper.1) (subst (λ z. pos 0 ≤ℤ z) (upper_step t w a s) (subst (λ z. pos 0 ≤ℤ ((t *ℤ w) -ℤ (z *ℤ s))) (size_of_negative a upper.0) least))
+      subst (λ b. Allows b ((w *ℤ t) +ℤ (a *ℤ s))) (sym upper.1)
+      (subst (λ z. pos 0 ≤ℤ z) (upper_step t w a s) (subst (λ z. pos 0 ≤ℤ ((t *ℤ w) -ℤ (z *ℤ s))) (size_of_negative a upper.0) least))
 
   -- a number for the column, with which all rows hold
   record Carried (rows : List Combination) : Type 0 where
@@ -153,7 +158,9 @@ module _ (numbers : List ℤ) (d : ℤ) (j : ℕ) (inside : j < length numbers) 
       → lower_bounds j rows ≡ p ∷ ps → upper_bounds j rows ≡ uppers
       → AllByRecursion (IsLowerBound j) (p ∷ ps) → AllByRecursion (IsUpperBound j) uppers → AllByRecursion (Pairs uppers) (p ∷ ps) → Carried rows
   from_lower rows p ps uppers met lowers_are uppers_are all_lower all_upper all_pair =
-      let found = best weight rest (LowerWithPairs uppers) p ps (all_by (IsLowerBound j) (Pairs uppers) (λ row. (pos 0 <ℤ weight row) × LowerWithPairs uppers row) (λ row lower pair. (weight_of_lower row lower.0, (lower, pair))) (p ∷ ps) all_lower all_pair) in
+      let found = best weight rest (LowerWithPairs uppers) p ps
+      (all_by (IsLowerBound j) (Pairs uppers) (λ row. (pos 0 <ℤ weight row) × LowerWithPairs uppers row)
+      (λ row lower pair. (weight_of_lower row lower.0, (lower, pair))) (p ∷ ps) all_lower all_pair) in
       let m = found.element in
       let After : Combination → Type 0 = HoldsAfter (weight m) (neg_ℤ (rest m)) in
       record {
@@ -161,14 +168,17 @@ module _ (numbers : List ℤ) (d : ℤ) (j : ℕ) (inside : j < length numbers) 
         number = neg_ℤ (rest m);
         positive = found.positive;
         holds = all_kinds j After rows (flats (weight m) (neg_ℤ (rest m)) found.positive rows met)
-            (subst (AllByRecursion After) (sym lowers_are) (all_by (IsLowerBound j) (IsLeast weight rest m) After (λ row lower least. lower_holds m row lower least) (p ∷ ps) all_lower found.least))
-            (subst (AllByRecursion After) (sym uppers_are) (all_by (IsUpperBound j) (λ upper. Meets numbers d (paired j m upper).row) After (λ row upper pair. paired_holds m row found.holds.0 upper pair) uppers all_upper found.holds.1));
+            (subst (AllByRecursion After) (sym lowers_are) (all_by (IsLowerBound j) (IsLeast weight rest m) After
+            (λ row lower least. lower_holds m row lower least) (p ∷ ps) all_lower found.least))
+            (subst (AllByRecursion After) (sym uppers_are) (all_by (IsUpperBound j) (λ upper. Meets numbers d (paired j m upper).row) After
+            (λ row upper pair. paired_holds m row found.holds.0 upper pair) uppers all_upper found.holds.1));
       }
 
   from_upper : (rows : List Combination) (n : Combination) (ns : List Combination) → MeetsEach numbers d (without j rows)
       → lower_bounds j rows ≡ [] → upper_bounds j rows ≡ n ∷ ns → AllByRecursion (IsUpperBound j) (n ∷ ns) → Carried rows
   from_upper rows n ns met lowers_are uppers_are all_upper =
-      let found = best weight rest (IsUpperBound j) n ns (all_weaker (IsUpperBound j) (λ row. (pos 0 <ℤ weight row) × IsUpperBound j row) (λ row upper. (weight_of_upper row upper.0, upper)) (n ∷ ns) all_upper) in
+      let found = best weight rest (IsUpperBound j) n ns (all_weaker (IsUpperBound j) (λ row. (pos 0 <ℤ weight row) × IsUpperBound j row)
+      (λ row upper. (weight_of_upper row upper.0, upper)) (n ∷ ns) all_upper) in
       let m = found.element in
       let After : Combination → Type 0 = HoldsAfter (weight m) (rest m) in
       record {
@@ -176,7 +186,8 @@ module _ (numbers : List ℤ) (d : ℤ) (j : ℕ) (inside : j < length numbers) 
         number = rest m;
         positive = found.positive;
         holds = all_kinds j After rows (flats (weight m) (rest m) found.positive rows met) (subst (AllByRecursion After) (sym lowers_are) tt)
-            (subst (AllByRecursion After) (sym uppers_are) (all_by (IsUpperBound j) (IsLeast weight rest m) After (λ row upper least. upper_holds m row upper least) (n ∷ ns) all_upper found.least));
+            (subst (AllByRecursion After) (sym uppers_are) (all_by (IsUpperBound j) (IsLeast weight rest m) After
+            (λ row upper least. upper_holds m row upper least) (n ∷ ns) all_upper found.least));
       }
 
   from_neither : (rows : List Combination) → MeetsEach numbers d (without j rows) → lower_bounds j rows ≡ [] → upper_bounds j rows ≡ [] → Carried rows
@@ -187,7 +198,8 @@ module _ (numbers : List ℤ) (d : ℤ) (j : ℕ) (inside : j < length numbers) 
         factor = pos 1;
         number = pos 0;
         positive = one;
-        holds = all_kinds j After rows (flats (pos 1) (pos 0) one rows met) (subst (AllByRecursion After) (sym lowers_are) tt) (subst (AllByRecursion After) (sym uppers_are) tt);
+        holds = all_kinds j After rows (flats (pos 1) (pos 0) one rows met) (subst (AllByRecursion After) (sym lowers_are) tt)
+            (subst (AllByRecursion After) (sym uppers_are) tt);
       }
 
   by_bounds : (rows lowers uppers : List Combination) → MeetsEach numbers d (without j rows) → lower_bounds j rows ≡ lowers → upper_bounds j rows ≡ uppers

@@ -7,21 +7,21 @@ use Rattle.std.proofs.lemmas.List.{get_or_past, length-replicate}
 use Rattle.std.proofs.lemmas.List.Elements.{All-from_recursion, recursion_from_All}
 use Rattle.lin_terms.specs.declared.row.Row.{Row}
 use Rattle.lin_terms.specs.Row.{Meets, HaveOneLength, columns_of}
-use Rattle.lin_terms.proofs.Ring.{as_dif, same_dif, difs, dif_pos}
+use Rattle.elimination.proofs.Ring.{as_dif, same_dif, difs, dif_pos}
 use Rattle.elimination.specs.declared.answer.Answer.TheVariants.{NotRefutable}
 use Rattle.elimination.specs.declared.answer.Limit.TheVariants.{ManyRows}
-use Rattle.elimination.specs.declared.answer.Stop.{Stop}
-use Rattle.elimination.specs.declared.answer.Stop.TheVariants.{Contradiction, AtLimit}
+use Rattle.elimination.specs.declared.answer.EarlyEnd.{EarlyEnd}
+use Rattle.elimination.specs.declared.answer.EarlyEnd.TheVariants.{Contradiction, AtLimit}
 use Rattle.elimination.specs.Combination.{Combination, entry, sign, size, combined}
 use Rattle.elimination.specs.Column.{projected}
 use Rattle.elimination.specs.Joining.{primitive, has_no_variable, list_of}
-use Rattle.elimination.specs.Eliminated.{initial, eliminate, answer_of, eliminated}
-use Rattle.elimination.specs.Laws.{HasPoint}
+use Rattle.elimination.specs.Eliminated.{most_rows, initial, eliminate, answer_of, eliminated}
+use Rattle.lin_terms.specs.Row.{HasPoint}
 use Rattle.elimination.proofs.Lists.{Anything, all_weaker}
 use Rattle.elimination.proofs.Points.{MeetsEach, entry-combined, sign-mul, zero_is, size_of_negative}
 use Rattle.elimination.proofs.Primitive.{entry-primitive}
 use Rattle.elimination.proofs.PointsOfLists.{HasWidePoint, columns_back, eliminate_err, list_of_back}
-use Rattle.elimination.proofs.Keeping.{Holding, Joins, new_list_holds, Steps, projected_has}
+use Rattle.elimination.proofs.Keeping.{Holding, Owes, new_list_holds, Steps, projected_has}
 
 -- ---- columns that are gone, where those before j are eliminated of n
 
@@ -66,18 +66,20 @@ reduced_gone n j pivot row pivot_gone row_gone =
 
 gone_steps : (n j : ℕ) → Steps j (IsLeft n j) (HasGone n (suc j))
 gone_steps n j = record {
-  flat = λ row zero stays i gone. ⊎_elim (λ is. subst (λ t. entry t row ≡ pos 0) (sym is) (zero_is (entry j row) zero)) (λ before. stays.0 i before) (gone_step n j i gone);
+  flat = λ row zero stays i gone. ⊎_elim (λ is. subst (λ t. entry t row ≡ pos 0) (sym is) (zero_is (entry j row) zero)) (λ before. stays.0 i before)
+      (gone_step n j i gone);
   reduce = λ pivot row equality has_pivot has. reduced_gone n j pivot row has_pivot.0 has.0;
   pair = λ lower upper is_lower is_upper has_lower has_upper.
       combined_gone n j (size (entry j upper)) lower (entry j lower) upper
-      (ap (λ t. (t *ℤ entry j lower) +ℤ (entry j lower *ℤ entry j upper)) (size_of_negative (entry j upper) is_upper.0) ∙ paired_zero (entry j lower) (entry j upper))
+      (ap (λ t. (t *ℤ entry j lower) +ℤ (entry j lower *ℤ entry j upper)) (size_of_negative (entry j upper) is_upper.0)
+      ∙ paired_zero (entry j lower) (entry j upper))
       has_lower.0 has_upper.0;
 }
 
-gone_joins : (n j : ℕ) (row : Combination) → HasGone n j row → Joins (IsLeft n j) Anything (primitive row)
+gone_joins : (n j : ℕ) (row : Combination) → HasGone n j row → Owes (IsLeft n j) Anything (primitive row)
 gone_joins n j row has_gone = record {
-  kept = λ narrow variable. ((λ i gone. entry-primitive i row (has_gone i gone)), variable);
-  failed = λ narrow no_variable fails. tt;
+  kept = λ fits variable. ((λ i gone. entry-primitive i row (has_gone i gone)), variable);
+  failed = λ fits no_variable fails. tt;
 }
 
 column_gone : (cap n j : ℕ) (rows : List Combination) → AllByRecursion (IsLeft n j) rows → Holding (IsLeft n (suc j)) Anything (list_of cap (projected j rows))
@@ -85,7 +87,7 @@ column_gone cap n j rows all =
     new_list_holds (HasGone n (suc j)) (IsLeft n (suc j)) Anything (gone_joins n (suc j)) cap (projected j rows)
     (projected_has j (IsLeft n j) (HasGone n (suc j)) (gone_steps n j) rows all)
 
-eliminate_gone : (cap n left j : ℕ) (rows : Result (List Combination) Stop) (out : List Combination) → Holding (IsLeft n j) Anything rows
+eliminate_gone : (cap n left j : ℕ) (rows : Result (List Combination) EarlyEnd) (out : List Combination) → Holding (IsLeft n j) Anything rows
     → eliminate cap left j rows ≡ Ok out → AllByRecursion (IsLeft n (j + left)) out
 eliminate_gone cap n zero j (Err stop) out holds e = cc
 eliminate_gone cap n zero j (Ok rows) out holds e =
@@ -132,7 +134,7 @@ meets_initial : (numbers : List ℤ) (d : ℤ) (before : ℕ) (rows : List Row) 
 meets_initial numbers d before [] met = tt
 meets_initial numbers d before (row ∷ rows) met = (met.0, meets_initial numbers d (suc before) rows met.1)
 
-first_point : (cap n : ℕ) (rows : List Row) (start : Result (List Combination) Stop) (out : List Combination) → list_of cap (initial 0 rows) ≡ start
+first_point : (cap n : ℕ) (rows : List Row) (start : Result (List Combination) EarlyEnd) (out : List Combination) → list_of cap (initial 0 rows) ≡ start
     → Holding (IsLeft n 0) Anything start → eliminate cap n 0 start ≡ Ok out → HasPoint rows
 first_point cap n rows (Err stop) out is holds ends = absurd (eliminate_err cap n 0 stop out ends)
 first_point cap n rows (Ok first) out is holds ends =
@@ -148,12 +150,13 @@ first_point cap n rows (Ok first) out is holds ends =
           (list_of_back point.numbers point.denominator (omega (arith, ints, point.positive)) cap (initial 0 rows) first is point.meets));
     }
 
-answered_point : (cap n : ℕ) (rows : List Row) (ended : Result (List Combination) Stop) → eliminate cap n 0 (list_of cap (initial 0 rows)) ≡ ended
+answered_point : (cap n : ℕ) (rows : List Row) (ended : Result (List Combination) EarlyEnd) → eliminate cap n 0 (list_of cap (initial 0 rows)) ≡ ended
     → answer_of ended ≡ Ok NotRefutable → AllByRecursion (λ row. length row.coefs ≡ n) rows → HasPoint rows
 answered_point cap n rows (Err (Contradiction multipliers)) is e lengths = cc
 answered_point cap n rows (Err (AtLimit limit)) is e lengths = cc
 answered_point cap n rows (Ok out) is e lengths =
-    first_point cap n rows (list_of cap (initial 0 rows)) out refl (new_list_holds (HasGone n 0) (IsLeft n 0) Anything (gone_joins n 0) cap (initial 0 rows) (initial_gone n 0 rows lengths)) is
+    first_point cap n rows (list_of cap (initial 0 rows)) out refl
+    (new_list_holds (HasGone n 0) (IsLeft n 0) Anything (gone_joins n 0) cap (initial 0 rows) (initial_gone n 0 rows lengths)) is
 
 few_point : (test : Bool) (rows : List Row) (cap : ℕ)
     → cond test (answer_of (eliminate cap (columns_of rows) 0 (list_of cap (initial 0 rows)))) (Err ManyRows) ≡ Ok NotRefutable
@@ -164,4 +167,4 @@ few_point false rows cap e lengths = cc
 
 pub has_point : (rows : List Row) (cap : ℕ) → HaveOneLength rows → eliminated rows cap ≡ Ok NotRefutable → HasPoint rows
 has_point rows cap one_length e =
-    few_point (nat_le (length rows) 4096) rows cap e (recursion_from_All (λ (row : Row). length row.coefs ≡ columns_of rows) rows one_length)
+    few_point (nat_le (length rows) most_rows) rows cap e (recursion_from_All (λ (row : Row). length row.coefs ≡ columns_of rows) rows one_length)

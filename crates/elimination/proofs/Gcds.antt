@@ -4,7 +4,7 @@ use Prim.Native.Nat.{◌∣◌}
 use Rattle.std.specs.Prelude.{ℤ, pos, negsuc, ◌*ℤ◌, unsigned_abs}
 use Rattle.std.proofs.lemmas.Nat.Gcd.{dvd-zero}
 use Rattle.lin_terms.specs.Divisor.{gcd_with, gcd_of, floor_div}
-use Rattle.lin_terms.proofs.Divisors.{gcd_with-append, same_gcd, gcd_of_below}
+use Rattle.lin_terms.proofs.Laws.{gcd_with-append, same_gcd, gcd_of_below}
 use Rattle.elimination.specs.declared.multipliers.Multiplier.{Multiplier}
 use Rattle.elimination.specs.Sparse.{table, IsRising}
 use Rattle.elimination.specs.Combination.{Combination}
@@ -30,7 +30,8 @@ pub gcd-table : (numbers : List ℤ) (count : ℕ) (entries : List Multiplier) �
 gcd-table numbers count entries rising =
     same_gcd (numbers ++ values entries) (numbers ++ table 0 count entries)
     (λ d divides. all_append (Divides d) numbers (table 0 count entries) (all_front (Divides d) numbers (values entries) divides)
-    (table_has (Divides d) count entries (dvd-zero d) rising (all_of_map (Divides d) (λ (entry : Multiplier). entry.value) entries (all_back (Divides d) numbers (values entries) divides))))
+    (table_has (Divides d) count entries (dvd-zero d) rising
+    (all_of_map (Divides d) (λ (entry : Multiplier). entry.value) entries (all_back (Divides d) numbers (values entries) divides))))
     (λ d divides. all_append (Divides d) numbers (values entries) (all_front (Divides d) numbers (table 0 count entries) divides)
     (all_map (λ (entry : Multiplier). Divides d entry.value) (Divides d) (λ (entry : Multiplier). entry.value) (λ entry has. has) entries
     (entries_have (Divides d) count entries rising (all_back (Divides d) numbers (table 0 count entries) divides))))

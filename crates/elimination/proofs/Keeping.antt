@@ -5,11 +5,11 @@ use Rattle.std.specs.List.{AllByRecursion}
 use Rattle.std.proofs.lemmas.Bool.{cond_both}
 use Rattle.elimination.specs.declared.answer.Limit.{Limit}
 use Rattle.elimination.specs.declared.answer.Limit.TheVariants.{WideRow, ManyRows, Memory}
-use Rattle.elimination.specs.declared.answer.Stop.{Stop}
-use Rattle.elimination.specs.declared.answer.Stop.TheVariants.{Contradiction, AtLimit}
+use Rattle.elimination.specs.declared.answer.EarlyEnd.{EarlyEnd}
+use Rattle.elimination.specs.declared.answer.EarlyEnd.TheVariants.{Contradiction, AtLimit}
 use Rattle.elimination.specs.Combination.{Combination, entry, is_zero, is_positive, is_negative, sign, size, combined}
 use Rattle.elimination.specs.Column.{is_pivot, behind, pivot_of, reduced, paired, without, lower_bounds, upper_bounds, pairs, projected_by, projected}
-use Rattle.elimination.specs.Joining.{numbers_of, primitive, is_wide, has_no_variable, allows, turned, judged, is_parallel, tighter, placed, added, counted, admitted, joined, joined_each, list_of}
+use Rattle.elimination.specs.Joining.{numbers_of, primitive, is_wide, has_no_variable, allows, refuting_multipliers, judged, is_parallel, tighter, placed, added, counted, admitted, joined, joined_each, list_of}
 use Rattle.elimination.specs.Eliminated.{eliminate}
 use Rattle.elimination.proofs.Lists.{all_by, all_weaker, all_append, all_map, all_filter}
 use Rattle.elimination.proofs.Pivots.{Picked, pivot_parts, none_picked, IsLowerBound, IsUpperBound, all_lower_bounds, all_upper_bounds}
@@ -36,46 +36,46 @@ module _ (P : Combination → Type 0) (R : List ℤ → Type 0) where
       (λ equality. all_append P rows (row ∷ []) all (has, tt)) (λ inequality. all_placed rows row all has)
 
   -- the rows of a list have P, and multipliers that stop it have R
-  abbrev pub Holding : Result (List Combination) Stop → Type 0
+  abbrev pub Holding : Result (List Combination) EarlyEnd → Type 0
   Holding (Ok rows) = AllByRecursion P rows
   Holding (Err (Contradiction multipliers)) = R multipliers
   Holding (Err (AtLimit limit)) = IsOfMethod limit
 
   -- what a row that joins owes: kept it has P, and where it does not hold its multipliers have R
-  pub record Joins (row : Combination) : Type 0 where
+  pub record Owes (row : Combination) : Type 0 where
     pub kept : is_wide (numbers_of row) ≡ false → has_no_variable row.row.coefs ≡ false → P row
     pub failed : is_wide (numbers_of row) ≡ false → has_no_variable row.row.coefs ≡ true → allows row.row.equality row.row.constant ≡ false
-        → R (turned row.row.constant row.multipliers)
+        → R (refuting_multipliers row.row.constant row.multipliers)
 
   judged_holds : (rows : List Combination) (row : Combination) → is_wide (numbers_of row) ≡ false → has_no_variable row.row.coefs ≡ true
-      → AllByRecursion P rows → Joins row → Holding (judged rows row)
-  judged_holds rows row narrow no_variable all joins =
-      cond_both (allows row.row.equality row.row.constant) (Ok rows) (Err (Contradiction (turned row.row.constant row.multipliers))) Holding
-      (λ allowed. all) (λ fails. joins.failed narrow no_variable fails)
+      → AllByRecursion P rows → Owes row → Holding (judged rows row)
+  judged_holds rows row fits no_variable all joins =
+      cond_both (allows row.row.equality row.row.constant) (Ok rows) (Err (Contradiction (refuting_multipliers row.row.constant row.multipliers))) Holding
+      (λ allowed. all) (λ fails. joins.failed fits no_variable fails)
 
   counted_holds : (cap : ℕ) (rows : List Combination) → AllByRecursion P rows → Holding (counted cap rows)
   counted_holds cap rows all = cond_both (nat_le (length rows) cap) (Ok rows) (Err (AtLimit ManyRows)) Holding (λ few. all) (λ many. tt)
 
-  admitted_holds : (cap : ℕ) (rows : List Combination) (row : Combination) → AllByRecursion P rows → Joins row → Holding (admitted cap rows row)
+  admitted_holds : (cap : ℕ) (rows : List Combination) (row : Combination) → AllByRecursion P rows → Owes row → Holding (admitted cap rows row)
   admitted_holds cap rows row all joins =
-      let by_variables : Result (List Combination) Stop = cond (has_no_variable row.row.coefs) (judged rows row) (counted cap (added rows row)) in
+      let by_variables : Result (List Combination) EarlyEnd = cond (has_no_variable row.row.coefs) (judged rows row) (counted cap (added rows row)) in
       cond_both (is_wide (numbers_of row)) (Err (AtLimit WideRow)) by_variables Holding (λ wide. tt)
-      (λ narrow. cond_both (has_no_variable row.row.coefs) (judged rows row) (counted cap (added rows row)) Holding
-      (λ no_variable. judged_holds rows row narrow no_variable all joins)
-      (λ variable. counted_holds cap (added rows row) (all_added rows row all (joins.kept narrow variable))))
+      (λ fits. cond_both (has_no_variable row.row.coefs) (judged rows row) (counted cap (added rows row)) Holding
+      (λ no_variable. judged_holds rows row fits no_variable all joins)
+      (λ variable. counted_holds cap (added rows row) (all_added rows row all (joins.kept fits variable))))
 
-  joined_each_holds : (cap : ℕ) (before : Result (List Combination) Stop) (later : List Combination) → Holding before
-      → AllByRecursion (λ row. Joins (primitive row)) later → Holding (joined_each cap before later)
+  joined_each_holds : (cap : ℕ) (before : Result (List Combination) EarlyEnd) (later : List Combination) → Holding before
+      → AllByRecursion (λ row. Owes (primitive row)) later → Holding (joined_each cap before later)
   joined_each_holds cap (Err stop) later holds joins = holds
   joined_each_holds cap (Ok rows) [] holds joins = holds
   joined_each_holds cap (Ok rows) (row ∷ later) holds joins =
       joined_each_holds cap (joined cap rows row) later (admitted_holds cap rows (primitive row) holds joins.0) joins.1
 
 -- a new list of rows that have A
-pub new_list_holds : (A P : Combination → Type 0) (R : List ℤ → Type 0) → ((row : Combination) → A row → Joins P R (primitive row))
+pub new_list_holds : (A P : Combination → Type 0) (R : List ℤ → Type 0) → ((row : Combination) → A row → Owes P R (primitive row))
     → (cap : ℕ) (rows : List Combination) → AllByRecursion A rows → Holding P R (list_of cap rows)
 new_list_holds A P R joins cap rows all =
-    joined_each_holds P R cap (Ok []) rows tt (all_weaker A (λ row. Joins P R (primitive row)) joins rows all)
+    joined_each_holds P R cap (Ok []) rows tt (all_weaker A (λ row. Owes P R (primitive row)) joins rows all)
 
 -- ---- rows without a column
 
@@ -149,9 +149,10 @@ module _ (j : ℕ) (A B : Combination → Type 0) (steps : Steps j A B) where
 -- ---- all columns
 
 -- what each step keeps stands to the end
-module _ (P : Combination → Type 0) (R : List ℤ → Type 0) (joins : (row : Combination) → P row → Joins P R (primitive row)) (steps : (j : ℕ) → Steps j P P) where
-  pub eliminate_holds : (cap left j : ℕ) (rows : Result (List Combination) Stop) → Holding P R rows → Holding P R (eliminate cap left j rows)
+module _ (P : Combination → Type 0) (R : List ℤ → Type 0) (joins : (row : Combination) → P row → Owes P R (primitive row)) (steps : (j : ℕ) → Steps j P P) where
+  pub eliminate_holds : (cap left j : ℕ) (rows : Result (List Combination) EarlyEnd) → Holding P R rows → Holding P R (eliminate cap left j rows)
   eliminate_holds cap zero j rows holds = holds
   eliminate_holds cap (suc left) j (Err stop) holds = holds
   eliminate_holds cap (suc left) j (Ok rows) holds =
-      eliminate_holds cap left (suc j) (list_of cap (projected j rows)) (new_list_holds P P R joins cap (projected j rows) (projected_has j P P (steps j) rows holds))
+      eliminate_holds cap left (suc j) (list_of cap (projected j rows))
+      (new_list_holds P P R joins cap (projected j rows) (projected_has j P P (steps j) rows holds))

@@ -1,3 +1,5 @@
+pub mod Ring
+pub mod Wide
 pub mod Lists
 pub mod Found
 pub mod Points
@@ -9,7 +11,7 @@ pub mod PointsOfLists
 pub mod Keeping
 pub mod Deciding
 pub mod Making
-pub mod Narrowness
+pub mod Fitting
 pub mod Answering
 mod Samples
 pub mod Merging
@@ -18,6 +20,6 @@ pub mod Gcds
 pub mod Places
 pub mod Sizes
 pub mod Stepping
-pub mod Uniform
 pub mod Picking
 pub mod Ending
+pub mod Weighted

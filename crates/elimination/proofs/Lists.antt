@@ -1,5 +1,5 @@
 -- Facts of each element of a list.
-use Rattle.std.proofs.Common.{◌≡◌, Bool, true, List, [], ◌∷◌, ◌++◌, map}
+use Rattle.std.proofs.Common.{◌≡◌, ℕ, zero, suc, Bool, true, List, [], ◌∷◌, ◌++◌, map, get_or}
 use Rattle.std.specs.Prelude.{filter}
 use Rattle.std.specs.List.{AllByRecursion}
 use Rattle.std.proofs.lemmas.Bool.{cond_both}
@@ -49,3 +49,9 @@ all_filter A B test passes [] all = tt
 all_filter A B test passes (x ∷ xs) all =
     let later = all_filter A B test passes xs all.1 in
     cond_both (test x) (x ∷ filter test xs) (filter test xs) (AllByRecursion B) (λ is. (passes x is all.0, later)) (λ is. later)
+
+-- what holds of each element and of the default holds at each place
+pub get_or_all : {X : Type 0} (A : X → Type 0) (xs : List X) (i : ℕ) (d : X) → A d → AllByRecursion A xs → A (get_or xs i d)
+get_or_all A [] i d default all = default
+get_or_all A (x ∷ xs) zero d default all = all.0
+get_or_all A (x ∷ xs) (suc i) d default all = get_or_all A xs i d default all.1

@@ -1,47 +1,27 @@
 -- Each row is what its multipliers make of the given rows; so the multipliers of a contradiction refute these.
-use Rattle.std.proofs.Common.{◌≡◌, ℕ, zero, suc, Bool, true, false, List, [], ◌∷◌, ◌++◌, map, arith, refl, sym, ◌∙◌, ap, subst, length, length-append, append_assoc, get_or, replicate}
+use Rattle.std.proofs.Common.{◌≡◌, ℕ, zero, suc, Bool, true, false, List, [], ◌∷◌, ◌++◌, map, arith, refl, sym, ◌∙◌, ap, subst, length, length-append, append_assoc, get_or, replicate, Result, Ok, Err}
 use Prim.Native.Nat.{◌∣◌}
-use Rattle.std.specs.Prelude.{unsigned_abs, ℤ, pos, negsuc, neg_ℤ, ◌+ℤ◌, ◌*ℤ◌, ◌-ℤ◌, ◌≤ℤ◌}
+use Rattle.std.specs.Prelude.{unsigned_abs, ℤ, pos, negsuc, neg_ℤ, ◌+ℤ◌, ◌*ℤ◌, ◌-ℤ◌, ◌≤ℤ◌, All}
 use Rattle.std.specs.Bool.{OnFalse}
 use Rattle.std.specs.List.{AllByRecursion, AllZip}
 use Rattle.std.proofs.lemmas.Int.{ints}
+use Rattle.std.proofs.lemmas.List.Elements.{All-from_recursion}
 use Rattle.std.proofs.lemmas.Nat.Gcd.{dvd-zero}
 use Rattle.lin_terms.specs.declared.row.Row.{Row}
 use Rattle.lin_terms.specs.Vectors.{dot, plus, scaled}
-use Rattle.lin_terms.specs.Row.{columns_of}
 use Rattle.lin_terms.specs.Divisor.{floor_div}
-use Rattle.lin_terms.proofs.Ring.{as_dif, same_dif, difs, mul-minus}
-use Rattle.lin_terms.proofs.Signs.{nonneg_add, nonneg_mul, zero_factor}
-use Rattle.lin_terms.proofs.Dots.{zero_entries, dot-replicate}
-use Rattle.lin_terms.proofs.Entries.{get_or_all}
-use Rattle.lin_terms.proofs.Divisors.{exact_quotient, dot-quotients}
+use Rattle.elimination.proofs.Ring.{as_dif, same_dif, difs, mul-minus}
+use Rattle.lin_terms.proofs.Laws.{nonneg_add, nonneg_mul, zero_factor, zero_entries, dot-replicate, exact_quotient, dot-quotients}
+use Rattle.elimination.proofs.Lists.{get_or_all}
 use Rattle.farkas_check.specs.Refutes.{column, constants, MayMultiply, Refutes}
+use Rattle.elimination.specs.declared.answer.EarlyEnd.{EarlyEnd}
 use Rattle.elimination.specs.Combination.{Combination, entry, is_zero, is_positive, sign, size, combined}
-use Rattle.elimination.specs.Joining.{divided, primitive, allows, turned, list_of}
+use Rattle.elimination.specs.Joining.{divided, primitive, allows, refuting_multipliers, list_of}
 use Rattle.elimination.specs.Eliminated.{initial, eliminate}
+use Rattle.elimination.specs.Made.{IsMadeSign, AreMadeSigns, IsMade}
 use Rattle.elimination.proofs.Points.{dot-sum, entry-combined, zero_is}
 use Rattle.elimination.proofs.Primitive.{IsDivisor, divisor_of, get_or-quotients}
-use Rattle.elimination.proofs.Keeping.{Holding, Joins, Steps, new_list_holds, eliminate_holds}
-
--- ---- what it means that multipliers make a row
-
--- the multiplier of a given row: at an inequality it is 0 where an equality is made, and otherwise not negative
-abbrev pub IsMadeSign : Bool → Bool → ℤ → Type 0
-IsMadeSign made true m = Unit {0}
-IsMadeSign true false m = m ≡ pos 0
-IsMadeSign false false m = pos 0 ≤ℤ m
-
-abbrev pub AreMadeSigns : Bool → List Row → List ℤ → Type 0
-AreMadeSigns made [] [] = Unit {0}
-AreMadeSigns made [] (m ∷ ms) = ⊥
-AreMadeSigns made (row ∷ rows) [] = ⊥
-AreMadeSigns made (row ∷ rows) (m ∷ ms) = IsMadeSign made row.equality m × AreMadeSigns made rows ms
-
--- the row is the sum of the given rows, each times its multiplier
-pub record IsMade (given : List Row) (row : Combination) : Type 0 where
-  columns : (j : ℕ) → dot row.multipliers (column j given) ≡ entry j row
-  constant : dot row.multipliers (constants given) ≡ row.row.constant
-  signs : AreMadeSigns row.row.equality given row.multipliers
+use Rattle.elimination.proofs.Keeping.{Holding, Owes, Steps, new_list_holds, eliminate_holds}
 
 -- ---- a sum of two rows
 
@@ -141,7 +121,8 @@ made_divided given row n divisor made =
     record {
       columns = λ j. cancelled n (dot quotients (column j given)) (entry j (divided (suc n) row))
           (dot-quotients n row.multipliers (column j given) divisor.multipliers ∙ made.columns j
-          ∙ sym (ap (λ t. pos (suc n) *ℤ t) (get_or-quotients n row.row.coefs j) ∙ exact_quotient n (entry j row) (get_or_all (λ (x : ℤ). suc n ∣ unsigned_abs x) row.row.coefs j (pos 0) (dvd-zero (suc n)) divisor.coefs)));
+          ∙ sym (ap (λ t. pos (suc n) *ℤ t) (get_or-quotients n row.row.coefs j)
+          ∙ exact_quotient n (entry j row) (get_or_all (λ (x : ℤ). suc n ∣ unsigned_abs x) row.row.coefs j (pos 0) (dvd-zero (suc n)) divisor.coefs)));
       constant = cancelled n (dot quotients (constants given)) (floor_div row.row.constant (suc n))
           (dot-quotients n row.multipliers (constants given) divisor.multipliers ∙ made.constant ∙ sym (exact_quotient n row.row.constant divisor.constant));
       signs = divided_signs n row.row.equality given row.multipliers made.signs;
@@ -198,21 +179,23 @@ module _ (given : List Row) (ms : List ℤ) (columns : (j : ℕ) → dot ms (col
     negative_constant = rw (dot-negated ms (constants given), is) positive;
   }
 
-  contradicted : (made : Bool) (c : ℤ) → AreMadeSigns made given ms → dot ms (constants given) ≡ c → allows made c ≡ false → Refutes given (turned c ms)
+  contradicted : (made : Bool) (c : ℤ) → AreMadeSigns made given ms → dot ms (constants given) ≡ c → allows made c ≡ false
+      → Refutes given (refuting_multipliers c ms)
   contradicted true (pos zero) signs is fails = cc
   contradicted true (pos (suc k)) signs is fails = with_other_sign (pos (suc k)) signs is (omega (arith, ints))
   contradicted true (negsuc k) signs is fails = as_they_are true (negsuc k) signs is (omega (arith, ints))
   contradicted false (pos k) signs is fails = cc
   contradicted false (negsuc k) signs is fails = as_they_are false (negsuc k) signs is (omega (arith, ints))
 
-made_joins : (given : List Row) (row : Combination) → IsMade given row → Joins (IsMade given) (Refutes given) (primitive row)
+made_joins : (given : List Row) (row : Combination) → IsMade given row → Owes (IsMade given) (Refutes given) (primitive row)
 made_joins given row made =
     let all = made_primitive given row made in
     let joins : Combination = primitive row in
     record {
-      kept = λ narrow variable. all;
-      failed = λ narrow no_variable fails.
-          contradicted given joins.multipliers (λ j. all.columns j ∙ zero_entries is_zero zero_is joins.row.coefs no_variable j) joins.row.equality joins.row.constant all.signs all.constant fails;
+      kept = λ fits variable. all;
+      failed = λ fits no_variable fails.
+          contradicted given joins.multipliers (λ j. all.columns j
+          ∙ zero_entries is_zero zero_is joins.row.coefs no_variable j) joins.row.equality joins.row.constant all.signs all.constant fails;
     }
 
 -- ---- the given rows
@@ -254,11 +237,24 @@ initial_made given front (row ∷ rows) before all count = (
     constant = unit_constant front row rows;
     signs = unit_signs front row rows;
   }),
-  initial_made given (front ++ row ∷ []) rows (suc before) (all ∙ sym (append_assoc front (row ∷ []) rows)) (omega (arith, count, length-append front (row ∷ []))),
+  initial_made given (front ++ row ∷ []) rows (suc before) (all ∙ sym (append_assoc front (row ∷ []) rows))
+      (omega (arith, count, length-append front (row ∷ []))),
 )
 
 -- what is left of the given rows is made of them
-pub all_made : (rows : List Row) (cap : ℕ) → Holding (IsMade rows) (Refutes rows) (eliminate cap (columns_of rows) 0 (list_of cap (initial 0 rows)))
-all_made rows cap =
-    eliminate_holds (IsMade rows) (Refutes rows) (made_joins rows) (made_steps rows) cap (columns_of rows) 0 (list_of cap (initial 0 rows))
+pub all_made : (rows : List Row) (cap left : ℕ) → Holding (IsMade rows) (Refutes rows) (eliminate cap left 0 (list_of cap (initial 0 rows)))
+all_made rows cap left =
+    eliminate_holds (IsMade rows) (Refutes rows) (made_joins rows) (made_steps rows) cap left 0 (list_of cap (initial 0 rows))
     (new_list_holds (IsMade rows) (IsMade rows) (Refutes rows) (made_joins rows) cap (initial 0 rows) (initial_made rows [] rows 0 refl refl))
+
+listed_made : (given : List Row) (made : Result (List Combination) EarlyEnd) (rows : List Combination) → Holding (IsMade given) (Refutes given) made
+    → made ≡ Ok rows
+    → AllByRecursion (IsMade given) rows
+listed_made given (Ok others) rows holds e = let same : others ≡ rows = cc in subst (AllByRecursion (IsMade given)) same holds
+listed_made given (Err early) rows holds e = cc
+
+-- the rows of each list that is made
+pub rows_made : (given : List Row) (cap left : ℕ) (rows : List Combination) → eliminate cap left 0 (list_of cap (initial 0 given)) ≡ Ok rows
+    → All (IsMade given) rows
+rows_made given cap left rows e =
+    All-from_recursion (IsMade given) rows (listed_made given (eliminate cap left 0 (list_of cap (initial 0 given))) rows (all_made given cap left) e)

@@ -4,8 +4,8 @@ use Rattle.std.specs.Prelude.{ℤ, pos, ◌+ℤ◌, ◌*ℤ◌, All}
 use Rattle.std.proofs.lemmas.List.Elements.{All-tail}
 use Rattle.std.proofs.lemmas.Int.{ints}
 use Rattle.std.proofs.lemmas.Bool.{cond_both, eqb-true, eqb-false, eq-eqb}
-use Rattle.lin_terms.specs.Row.{IsNarrow}
-use Rattle.lin_terms.proofs.Ring.{as_dif, same_dif, difs, dif_pos}
+use Rattle.lin_terms.specs.Bounds.{FitsRow}
+use Rattle.elimination.proofs.Ring.{as_dif, same_dif, difs, dif_pos}
 use Rattle.elimination.specs.declared.multipliers.Multiplier.{Multiplier}
 use Rattle.elimination.specs.Sparse.{at, IsRising, first_row, front_of, behind_row, IsAdded}
 
@@ -92,7 +92,8 @@ from_first from count (entry ∷ entries) rising = rising.0
 abbrev pub next_row : ℕ → List Multiplier → List Multiplier → ℕ
 next_row count ps qs = min (first_row count ps) (first_row count qs)
 
-pub next_below : (from count : ℕ) (ps qs : List Multiplier) → IsRising from count ps → IsRising from count qs → (ps ≢ []) ⊎ (qs ≢ []) → next_row count ps qs < count
+pub next_below : (from count : ℕ) (ps qs : List Multiplier) → IsRising from count ps → IsRising from count qs → (ps ≢ []) ⊎ (qs ≢ [])
+    → next_row count ps qs < count
 next_below from count [] [] ps_rising qs_rising (inl some) = absurd (some refl)
 next_below from count [] [] ps_rising qs_rising (inr some) = absurd (some refl)
 next_below from count [] (q ∷ qs) ps_rising qs_rising some =
@@ -154,14 +155,14 @@ added_nothing row value before is = rw is (record {
 
 -- ---- one step
 
-abbrev pub AreNarrowEntries : List Multiplier → Type 0
-AreNarrowEntries entries = All (λ entry. IsNarrow entry.value) entries
+abbrev pub AreFittingEntries : List Multiplier → Type 0
+AreFittingEntries entries = All (λ entry. FitsRow entry.value) entries
 
-pub narrow_behind : (row : ℕ) (entries : List Multiplier) → AreNarrowEntries entries → AreNarrowEntries (behind_row row entries)
-narrow_behind row [] narrow = narrow
-narrow_behind row (entry ∷ entries) narrow =
-    cond_both (eqb entry.row row) entries (entry ∷ entries) AreNarrowEntries
-    (λ is. All-tail (λ (e : Multiplier). IsNarrow e.value) entry entries narrow) (λ other. narrow)
+pub fitting_behind : (row : ℕ) (entries : List Multiplier) → AreFittingEntries entries → AreFittingEntries (behind_row row entries)
+fitting_behind row [] fits = fits
+fitting_behind row (entry ∷ entries) fits =
+    cond_both (eqb entry.row row) entries (entry ∷ entries) AreFittingEntries
+    (λ is. All-tail (λ (e : Multiplier). FitsRow e.value) entry entries fits) (λ other. fits)
 
 pub merging_step : (k l : ℤ) (count row : ℕ) (target : ℕ → ℤ) (made after ps qs : List Multiplier) (value : ℤ) → IsMerging k l count target made ps qs
     → row ≡ next_row count ps qs → (ps ≢ []) ⊎ (qs ≢ []) → value ≡ (k *ℤ front_of row ps) +ℤ (l *ℤ front_of row qs) → IsAdded row value made after

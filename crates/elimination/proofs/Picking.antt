@@ -20,10 +20,12 @@ IsPickedAt j place rows = (d : Combination) → pivot_of j rows ≡ Some (get_or
 picked_here : (j : ℕ) (row : Combination) (rows : List Combination) → is_pivot j row ≡ true → IsPickedAt j 0 (row ∷ rows)
 picked_here j row rows is d = rw is refl
 
-picked_later : (j place : ℕ) (row : Combination) (rows : List Combination) → is_pivot j row ≡ false → IsPickedAt j place rows → IsPickedAt j (suc place) (row ∷ rows)
+picked_later : (j place : ℕ) (row : Combination) (rows : List Combination) → is_pivot j row ≡ false → IsPickedAt j place rows
+    → IsPickedAt j (suc place) (row ∷ rows)
 picked_later j place row rows fails later d = rw fails (ap (behind row) (later d))
 
-pub projected_reduced : (j : ℕ) (rows : List Combination) (pivot : Combination) (place : Option ℕ) (at : ℕ) → place ≡ position (is_pivot j) rows → place ≡ Some at
+pub projected_reduced : (j : ℕ) (rows : List Combination) (pivot : Combination) (place : Option ℕ) (at : ℕ) → place ≡ position (is_pivot j) rows
+    → place ≡ Some at
     → pivot ≡ get_or rows at pivot → projected j rows ≡ map (reduced j pivot) (take at rows ++ drop (at + 1) rows)
 projected_reduced j rows pivot place at is some there =
     let next : suc at ≡ at + 1 = omega arith in

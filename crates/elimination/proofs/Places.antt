@@ -1,5 +1,5 @@
 -- Where a row is placed, and what a row that joins a list does.
-use Rattle.std.proofs.Common.{◌≡◌, ◌↔◌, ℕ, suc, ◌<◌, ◌^◌, Bool, true, false, cond, not, List, [], ◌∷◌, ◌++◌, arith, refl, sym, ◌∙◌, ap, get_or, set, Option, Some, None, Result, Err, IsTrue}
+use Rattle.std.proofs.Common.{◌≡◌, ◌↔◌, ℕ, suc, ◌<◌, ◌^◌, Bool, true, false, cond, not, List, [], ◌∷◌, ◌++◌, arith, refl, sym, ◌∙◌, ap, get_or, set, Option, Some, None, Err, IsTrue}
 use Rattle.std.specs.Prelude.{ℤ, unsigned_abs, int_lt, nat_le, position}
 use Rattle.std.specs.List.{AllByRecursion}
 use Rattle.std.proofs.lemmas.List.{get_or_default, set-get_or}
@@ -7,16 +7,15 @@ use Rattle.std.proofs.lemmas.List.Quantifiers.{position-Some}
 use Rattle.std.proofs.lemmas.Bool.{cond-true, cond-false}
 use Rattle.std.proofs.lemmas.Bool.Decides.{nat_tests}
 use Rattle.std.proofs.lemmas.List.Elements.{All-from_recursion, recursion_from_All}
-use Rattle.lin_terms.specs.Row.{IsNarrow}
-use Rattle.elimination.specs.declared.answer.Stop.{Stop}
-use Rattle.elimination.specs.declared.answer.Stop.TheVariants.{AtLimit}
+use Rattle.lin_terms.specs.Bounds.{FitsRow}
+use Rattle.elimination.specs.declared.answer.EarlyEnd.TheVariants.{AtLimit}
 use Rattle.elimination.specs.declared.answer.Limit.TheVariants.{WideRow}
 use Rattle.elimination.specs.Combination.{Combination}
-use Rattle.elimination.specs.Joining.{numbers_of, primitive, is_wide, has_no_variable, judged, is_parallel, tighter, placed, added, counted, admitted, joined}
-use Rattle.elimination.specs.Working.{IsNarrowCombination}
+use Rattle.elimination.specs.Joining.{numbers_of, primitive, is_wide, is_parallel, tighter, placed, kept, admitted, joined}
+use Rattle.elimination.specs.Working.{IsFittingCombination}
 use Rattle.elimination.proofs.Found.{not_found, found}
 use Rattle.elimination.proofs.Lists.{all_append, all_front, all_back}
-use Rattle.elimination.proofs.Narrowness.{narrow_numbers}
+use Rattle.elimination.proofs.Fitting.{fitting_numbers}
 
 -- ---- the first parallel row
 
@@ -41,7 +40,8 @@ placed_later : (row : Combination) (place : ℕ) (earlier : Combination) (rows :
 placed_later row place earlier rows fails later = rw fails (ap (λ t. earlier ∷ t) later)
 
 -- the earlier row that stands there
-placed_at : (rows : List Combination) (row earlier : Combination) (place : Option ℕ) (at : ℕ) → place ≡ position (λ earlier. is_parallel earlier row) rows → place ≡ Some at
+placed_at : (rows : List Combination) (row earlier : Combination) (place : Option ℕ) (at : ℕ) → place ≡ position (λ earlier. is_parallel earlier row) rows
+    → place ≡ Some at
     → earlier ≡ get_or rows at earlier → (placed rows row ≡ set rows at (tighter earlier row)) × (earlier ≡ get_or rows at row)
 placed_at rows row earlier place at is some there =
     let here = sym is ∙ some in
@@ -59,55 +59,61 @@ placed_instead rows row earlier place at false is some there less =
     let placed_there = placed_at rows row earlier place at is some there in
     placed_there.0 ∙ ap (λ t. set rows at (cond t row earlier)) less ∙ ap (λ r. set rows at r) placed_there.1 ∙ set-get_or rows at row
 
--- ---- narrow rows
+-- ---- rows that fit
 
-numbers_narrow : (row : Combination) → IsNarrowCombination row → AllByRecursion IsNarrow (numbers_of row)
-numbers_narrow row narrow =
-    (narrow.constant, all_append IsNarrow row.row.coefs row.multipliers (recursion_from_All IsNarrow row.row.coefs narrow.coefs) (recursion_from_All IsNarrow row.multipliers narrow.multipliers))
+numbers_fits : (row : Combination) → IsFittingCombination row → AllByRecursion FitsRow (numbers_of row)
+numbers_fits row fits = (
+  fits.constant,
+  all_append FitsRow row.row.coefs row.multipliers (recursion_from_All FitsRow row.row.coefs fits.coefs)
+      (recursion_from_All FitsRow row.multipliers fits.multipliers),
+)
 
-pub narrow_combination : (row : Combination) → is_wide (numbers_of row) ≡ false → IsNarrowCombination row
-narrow_combination row e =
-    let all = narrow_numbers (numbers_of row) e in
+pub fitting_combination : (row : Combination) → is_wide (numbers_of row) ≡ false → IsFittingCombination row
+fitting_combination row e =
+    let all = fitting_numbers (numbers_of row) e in
     record {
       constant = all.0;
-      coefs = All-from_recursion IsNarrow row.row.coefs (all_front IsNarrow row.row.coefs row.multipliers all.1);
-      multipliers = All-from_recursion IsNarrow row.multipliers (all_back IsNarrow row.row.coefs row.multipliers all.1);
+      coefs = All-from_recursion FitsRow row.row.coefs (all_front FitsRow row.row.coefs row.multipliers all.1);
+      multipliers = All-from_recursion FitsRow row.multipliers (all_back FitsRow row.row.coefs row.multipliers all.1);
     }
 
 below_not_wide : (n : ℕ) → n < 2 ^ 56 → nat_le (2 ^ 56) n ≡ false
 below_not_wide n small = grind (arith, nat_tests)
 
-no_wide : (numbers : List ℤ) → AllByRecursion IsNarrow numbers → is_wide numbers ≡ false
-no_wide [] narrow = refl
-no_wide (x ∷ numbers) narrow = rw (below_not_wide (unsigned_abs x) narrow.0, no_wide numbers narrow.1) refl
+no_wide : (numbers : List ℤ) → AllByRecursion FitsRow numbers → is_wide numbers ≡ false
+no_wide [] fits = refl
+no_wide (x ∷ numbers) fits = rw (below_not_wide (unsigned_abs x) fits.0, no_wide numbers fits.1) refl
 
-by_width : (wide narrow : Bool) (row : Combination) → is_wide (numbers_of row) ≡ wide → (IsTrue narrow ↔ IsNarrowCombination row) → wide ≡ not narrow
-by_width true true row is both = sym is ∙ no_wide (numbers_of row) (numbers_narrow row (both.0 refl))
+by_width : (wide fits : Bool) (row : Combination) → is_wide (numbers_of row) ≡ wide → (IsTrue fits ↔ IsFittingCombination row) → wide ≡ not fits
+by_width true true row is both = sym is ∙ no_wide (numbers_of row) (numbers_fits row (both.0 refl))
 by_width true false row is both = refl
 by_width false true row is both = refl
-by_width false false row is both = both.1 (narrow_combination row is)
+by_width false false row is both = both.1 (fitting_combination row is)
 
-pub width_is : (narrow : Bool) (row : Combination) → (IsTrue narrow ↔ IsNarrowCombination row) → is_wide (numbers_of row) ≡ not narrow
-width_is narrow row both = by_width (is_wide (numbers_of row)) narrow row refl both
+pub width_is : (fits : Bool) (row : Combination) → (IsTrue fits ↔ IsFittingCombination row) → is_wide (numbers_of row) ≡ not fits
+width_is fits row both = by_width (is_wide (numbers_of row)) fits row refl both
 
 -- ---- what joins
 
-joined_by : (wide : Bool) (cap : ℕ) (rows : List Combination) (raw row : Combination) → row ≡ primitive raw → is_wide (numbers_of row) ≡ wide
-    → joined cap rows raw ≡ cond wide (Err (AtLimit WideRow)) (cond (has_no_variable row.row.coefs) (judged rows row) (counted cap (added rows row)))
-joined_by wide cap rows raw row is tested =
-    ap (admitted cap rows) (sym is)
-    ∙ ap (λ (t : Bool). cond {A = Result (List Combination) Stop} t (Err (AtLimit WideRow)) (cond (has_no_variable row.row.coefs) (judged rows row) (counted cap (added rows row)))) tested
+-- a row that fits is kept
+pub some_row : (row : Combination) (fits : Bool) → (IsTrue fits ↔ IsFittingCombination row) → fits ≡ true
+    → ◌≡◌ {A = Option Combination} (cond (is_wide (numbers_of row)) None (Some row)) (Some row)
+some_row row fits both is = cond-false (is_wide (numbers_of row)) None (Some row) (width_is fits row both ∙ ap not is)
+
+-- what a row that was kept says
+pub kept_same : (wide : Bool) (row found : Combination) → ◌≡◌ {A = Option Combination} (Some found) (cond wide None (Some row)) → (row ≡ found) × (wide ≡ false)
+kept_same true row found e = cc
+kept_same false row found e = (cc, refl)
+
+pub none_wide : (wide : Bool) (row : Combination) → ◌≡◌ {A = Option Combination} None (cond wide None (Some row)) → wide ≡ true
+none_wide true row e = refl
+none_wide false row e = cc
 
 pub joined_wide : (cap : ℕ) (rows : List Combination) (raw row : Combination) → row ≡ primitive raw → is_wide (numbers_of row) ≡ true
     → joined cap rows raw ≡ Err (AtLimit WideRow)
-joined_wide cap rows raw row is wide = joined_by true cap rows raw row is wide
+joined_wide cap rows raw row is wide = ap (admitted cap rows) (sym is) ∙ cond-true (is_wide (numbers_of row)) (Err (AtLimit WideRow)) (kept cap rows row) wide
 
-pub joined_judged : (cap : ℕ) (rows : List Combination) (raw row : Combination) → row ≡ primitive raw → is_wide (numbers_of row) ≡ false
-    → has_no_variable row.row.coefs ≡ true → joined cap rows raw ≡ judged rows row
-joined_judged cap rows raw row is narrow no_variable =
-    joined_by false cap rows raw row is narrow ∙ cond-true (has_no_variable row.row.coefs) (judged rows row) (counted cap (added rows row)) no_variable
-
-pub joined_counted : (cap : ℕ) (rows : List Combination) (raw row : Combination) → row ≡ primitive raw → is_wide (numbers_of row) ≡ false
-    → has_no_variable row.row.coefs ≡ false → joined cap rows raw ≡ counted cap (added rows row)
-joined_counted cap rows raw row is narrow variable =
-    joined_by false cap rows raw row is narrow ∙ cond-false (has_no_variable row.row.coefs) (judged rows row) (counted cap (added rows row)) variable
+pub joined_kept : (cap : ℕ) (rows : List Combination) (raw row : Combination) → row ≡ primitive raw → is_wide (numbers_of row) ≡ false
+    → joined cap rows raw ≡ kept cap rows row
+joined_kept cap rows raw row is fits = ap (admitted cap rows) (sym is)
+    ∙ cond-false (is_wide (numbers_of row)) (Err (AtLimit WideRow)) (kept cap rows row) fits

@@ -5,9 +5,8 @@ use Rattle.std.specs.List.{AllByRecursion}
 use Rattle.std.proofs.lemmas.Int.{ints}
 use Rattle.lin_terms.specs.Vectors.{dot, plus, scaled}
 use Rattle.lin_terms.specs.Row.{Allows, Meets}
-use Rattle.lin_terms.proofs.Ring.{as_dif, same_dif, difs}
-use Rattle.lin_terms.proofs.Dots.{dot-plus, dot-scaled, get_or-plus, get_or-scaled, length-scaled}
-use Rattle.lin_terms.proofs.Signs.{nonneg_mul}
+use Rattle.elimination.proofs.Ring.{as_dif, same_dif, difs}
+use Rattle.lin_terms.proofs.Laws.{dot-plus, dot-scaled, get_or-plus, get_or-scaled, length-scaled, nonneg_mul}
 use Rattle.elimination.specs.Combination.{Combination, entry, is_zero, is_positive, is_negative, sign, size, combined}
 
 -- the value of `coefs · v + constant` at numbers over a denominator, times the denominator
@@ -53,7 +52,8 @@ pub value-moved : (coefs : List ℤ) (c : ℤ) (numbers : List ℤ) (d k y : ℤ
 value-moved coefs c numbers d k y j inside =
     let a : ℤ = get_or coefs j (pos 0) in
     let x : ℤ = get_or numbers j (pos 0) in
-    let replaced = rw (get_or-scaled k numbers j, dot-scaled_right k coefs numbers) at (dot-set coefs (scaled k numbers) j y (rw (length-scaled k numbers) inside)) in
+    let replaced = rw (get_or-scaled k numbers j, dot-scaled_right k coefs numbers) at
+    (dot-set coefs (scaled k numbers) j y (rw (length-scaled k numbers) inside)) in
     moved_first (dot coefs (set (scaled k numbers) j y)) (a *ℤ (k *ℤ x)) c k d
     ∙ ap (λ t. (t -ℤ (a *ℤ (k *ℤ x))) +ℤ (c *ℤ (k *ℤ d))) replaced
     ∙ moved_last (dot coefs numbers) a x y k c d

@@ -9,23 +9,22 @@ use Rattle.std.proofs.lemmas.Bool.Decides.{Decides-int_eq}
 use lib.Pointwise.{pointwise, pointwise_decides}
 use Rattle.lin_terms.specs.Vectors.{dot, scaled}
 use Rattle.lin_terms.specs.Row.{Allows, Meets}
-use Rattle.lin_terms.proofs.Ring.{as_dif, same_dif, difs}
-use Rattle.lin_terms.proofs.Signs.{nonneg_add, nonneg_mul}
-use Rattle.lin_terms.proofs.Dots.{length-scaled, zero_entries, dot-zeros}
-use Rattle.elimination.specs.declared.answer.Stop.{Stop}
-use Rattle.elimination.specs.declared.answer.Stop.TheVariants.{Contradiction, AtLimit}
+use Rattle.elimination.proofs.Ring.{as_dif, same_dif, difs}
+use Rattle.lin_terms.proofs.Laws.{nonneg_add, nonneg_mul, length-scaled, zero_entries, dot-zeros}
+use Rattle.elimination.specs.declared.answer.EarlyEnd.{EarlyEnd}
+use Rattle.elimination.specs.declared.answer.EarlyEnd.TheVariants.{Contradiction, AtLimit}
 use Rattle.elimination.specs.declared.answer.Limit.TheVariants.{WideRow, ManyRows}
 use Rattle.elimination.specs.Combination.{Combination, is_zero}
 use Rattle.elimination.specs.Column.{projected}
-use Rattle.elimination.specs.Joining.{numbers_of, primitive, is_wide, has_no_variable, allows, turned, judged, is_parallel, tighter, placed, added, counted, admitted, joined, joined_each, list_of}
+use Rattle.elimination.specs.Joining.{numbers_of, primitive, is_wide, has_no_variable, allows, refuting_multipliers, judged, is_parallel, tighter, placed, added, counted, admitted, joined, joined_each, list_of}
 use Rattle.elimination.specs.Eliminated.{eliminate}
 use Rattle.elimination.proofs.Lists.{all_front, all_back}
 use Rattle.elimination.proofs.Points.{MeetsEach, zero_is}
 use Rattle.elimination.proofs.Primitive.{primitive_back}
-use Rattle.elimination.proofs.Stepping.{eliminate_stopped}
+use Rattle.elimination.proofs.Stepping.{eliminate_ended}
 use Rattle.elimination.proofs.CarriedBack.{carried_back}
 
-pub ok_same : (xs ys : List Combination) → ◌≡◌ {A = Result (List Combination) Stop} (Ok xs) (Ok ys) → xs ≡ ys
+pub ok_same : (xs ys : List Combination) → ◌≡◌ {A = Result (List Combination) EarlyEnd} (Ok xs) (Ok ys) → xs ≡ ys
 ok_same xs ys e = cc
 
 -- ---- a row that is left out
@@ -39,7 +38,8 @@ constant_allowed false (negsuc n) d not_negative e = cc
 left_out : (numbers : List ℤ) (d : ℤ) (row : Combination) → pos 0 ≤ℤ d → has_no_variable row.row.coefs ≡ true
     → allows row.row.equality row.row.constant ≡ true → Meets numbers d row.row
 left_out numbers d row not_negative no_variable allowed =
-    rw (dot-zeros row.row.coefs numbers (zero_entries is_zero zero_is row.row.coefs no_variable)) (constant_allowed row.row.equality row.row.constant d not_negative allowed)
+    rw (dot-zeros row.row.coefs numbers (zero_entries is_zero zero_is row.row.coefs no_variable))
+    (constant_allowed row.row.equality row.row.constant d not_negative allowed)
 
 -- ---- parallel rows
 
@@ -64,7 +64,8 @@ module _ (numbers : List ℤ) (d : ℤ) (not_negative : pos 0 ≤ℤ d) where
   parallel_met : (p q : Combination) → p.row.equality ≡ false → q.row.equality ≡ false → p.row.coefs ≡ q.row.coefs
       → p.row.constant ≤ℤ q.row.constant → Met p → Met q
   parallel_met p q p_inequality q_inequality coefs below met =
-      let holds : pos 0 ≤ℤ (dot p.row.coefs numbers +ℤ (p.row.constant *ℤ d)) = subst (λ b. Allows b (dot p.row.coefs numbers +ℤ (p.row.constant *ℤ d))) p_inequality met in
+      let holds : pos 0 ≤ℤ (dot p.row.coefs numbers +ℤ (p.row.constant *ℤ d)) = subst
+      (λ b. Allows b (dot p.row.coefs numbers +ℤ (p.row.constant *ℤ d))) p_inequality met in
       rw (q_inequality, ← coefs) (less_constant (dot p.row.coefs numbers) p.row.constant q.row.constant d not_negative below holds)
 
   -- of parallel rows the one that stays implies the other
@@ -79,26 +80,33 @@ module _ (numbers : List ℤ) (d : ℤ) (not_negative : pos 0 ≤ℤ d) where
       let below : earlier.row.constant ≤ℤ row.row.constant = omega (arith, ints) in
       (met, parallel_met earlier row (not-true earlier.row.equality both.0) inequality (same_coefs earlier.row.coefs row.row.coefs both.1) below met)
 
-  placed_back : (rows : List Combination) (row : Combination) → row.row.equality ≡ false → AllByRecursion Met (placed rows row) → AllByRecursion Met rows × Met row
+  placed_back : (rows : List Combination) (row : Combination) → row.row.equality ≡ false → AllByRecursion Met (placed rows row)
+      → AllByRecursion Met rows × Met row
   placed_back [] row inequality met = (tt, met.0)
   placed_back (earlier ∷ rows) row inequality met =
-      cond_both (is_parallel earlier row) (tighter earlier row ∷ rows) (earlier ∷ placed rows row) (λ rs. AllByRecursion Met rs → AllByRecursion Met (earlier ∷ rows) × Met row)
-      (λ parallel met_here. let both = tighter_step (int_lt row.row.constant earlier.row.constant) earlier row refl inequality parallel met_here.0 in ((both.0, met_here.1), both.1))
+      cond_both (is_parallel earlier row) (tighter earlier row ∷ rows) (earlier ∷ placed rows row)
+      (λ rs. AllByRecursion Met rs → AllByRecursion Met (earlier ∷ rows) × Met row)
+      (λ parallel met_here. let both = tighter_step (int_lt row.row.constant earlier.row.constant) earlier row refl inequality parallel met_here.0 in
+      ((both.0, met_here.1), both.1))
       (λ other met_here. let both = placed_back rows row inequality met_here.1 in ((met_here.0, both.0), both.1)) met
 
   added_back : (rows : List Combination) (row : Combination) → AllByRecursion Met (added rows row) → AllByRecursion Met rows × Met row
   added_back rows row met =
       cond_both row.row.equality (rows ++ row ∷ []) (placed rows row) (λ rs. AllByRecursion Met rs → AllByRecursion Met rows × Met row)
-      (λ equality met_here. (all_front Met rows (row ∷ []) met_here, (all_back Met rows (row ∷ []) met_here).0)) (λ inequality met_here. placed_back rows row inequality met_here) met
+      (λ equality met_here. (all_front Met rows (row ∷ []) met_here, (all_back Met rows (row ∷ []) met_here).0))
+      (λ inequality met_here. placed_back rows row inequality met_here) met
 
   -- where the list is made, what meets it meets the rows before and the row that joins
-  abbrev IsMetBefore : List Combination → Combination → List Combination → Result (List Combination) Stop → Type 0
+  abbrev IsMetBefore : List Combination → Combination → List Combination → Result (List Combination) EarlyEnd → Type 0
   IsMetBefore rows row out made = made ≡ Ok out → AllByRecursion Met out → AllByRecursion Met rows × Met row
 
-  judged_back : (rows : List Combination) (row : Combination) (out : List Combination) → has_no_variable row.row.coefs ≡ true → IsMetBefore rows row out (judged rows row)
+  judged_back : (rows : List Combination) (row : Combination) (out : List Combination) → has_no_variable row.row.coefs ≡ true
+      → IsMetBefore rows row out (judged rows row)
   judged_back rows row out no_variable =
-      cond_both (allows row.row.equality row.row.constant) (Ok rows) (Err (Contradiction (turned row.row.constant row.multipliers))) (IsMetBefore rows row out)
-      (λ allowed e met. (subst (AllByRecursion Met) (sym (ok_same rows out e)) met, left_out numbers d row not_negative no_variable allowed)) (λ fails e met. cc)
+      cond_both (allows row.row.equality row.row.constant) (Ok rows) (Err (Contradiction (refuting_multipliers row.row.constant row.multipliers)))
+      (IsMetBefore rows row out)
+      (λ allowed e met. (subst (AllByRecursion Met) (sym (ok_same rows out e)) met, left_out numbers d row not_negative no_variable allowed))
+      (λ fails e met. cc)
 
   counted_back : (cap : ℕ) (rows : List Combination) (row : Combination) (out : List Combination) → IsMetBefore rows row out (counted cap (added rows row))
   counted_back cap rows row out =
@@ -107,9 +115,9 @@ module _ (numbers : List ℤ) (d : ℤ) (not_negative : pos 0 ≤ℤ d) where
 
   admitted_back : (cap : ℕ) (rows : List Combination) (row : Combination) (out : List Combination) → IsMetBefore rows row out (admitted cap rows row)
   admitted_back cap rows row out =
-      let by_variables : Result (List Combination) Stop = cond (has_no_variable row.row.coefs) (judged rows row) (counted cap (added rows row)) in
+      let by_variables : Result (List Combination) EarlyEnd = cond (has_no_variable row.row.coefs) (judged rows row) (counted cap (added rows row)) in
       cond_both (is_wide (numbers_of row)) (Err (AtLimit WideRow)) by_variables (IsMetBefore rows row out) (λ wide e met. cc)
-      (λ narrow. cond_both (has_no_variable row.row.coefs) (judged rows row) (counted cap (added rows row)) (IsMetBefore rows row out)
+      (λ fits. cond_both (has_no_variable row.row.coefs) (judged rows row) (counted cap (added rows row)) (IsMetBefore rows row out)
       (λ no_variable. judged_back rows row out no_variable) (λ variable. counted_back cap rows row out))
 
   joined_back : (cap : ℕ) (rows : List Combination) (row : Combination) (out : List Combination) → joined cap rows row ≡ Ok out
@@ -119,13 +127,13 @@ module _ (numbers : List ℤ) (d : ℤ) (not_negative : pos 0 ≤ℤ d) where
       (both.0, primitive_back numbers d row both.1)
 
   -- the list before, which the point meets as well as the rows that joined
-  record MetBefore (before : Result (List Combination) Stop) (later : List Combination) : Type 0 where
+  record MetBefore (before : Result (List Combination) EarlyEnd) (later : List Combination) : Type 0 where
     rows : List Combination
     is : before ≡ Ok rows
     meets : AllByRecursion Met rows
     meets_later : AllByRecursion Met later
 
-  joined_each_back : (cap : ℕ) (before : Result (List Combination) Stop) (later out : List Combination) → joined_each cap before later ≡ Ok out
+  joined_each_back : (cap : ℕ) (before : Result (List Combination) EarlyEnd) (later out : List Combination) → joined_each cap before later ≡ Ok out
       → AllByRecursion Met out → MetBefore before later
   joined_each_back cap (Err stop) later out e met = cc
   joined_each_back cap (Ok rows) [] out e met =
@@ -140,8 +148,8 @@ module _ (numbers : List ℤ) (d : ℤ) (not_negative : pos 0 ≤ℤ d) where
 
 -- ---- all columns
 
-pub eliminate_err : (cap left j : ℕ) (stop : Stop) (out : List Combination) → eliminate cap left j (Err stop) ≡ Ok out → ⊥
-eliminate_err cap left j stop out e = let stopped = eliminate_stopped cap left j stop in cc
+pub eliminate_err : (cap left j : ℕ) (stop : EarlyEnd) (out : List Combination) → eliminate cap left j (Err stop) ≡ Ok out → ⊥
+eliminate_err cap left j stop out e = let stopped = eliminate_ended cap left j stop in cc
 
 positive_mul : (a b : ℤ) → pos 0 <ℤ a → pos 0 <ℤ b → pos 0 <ℤ (a *ℤ b)
 positive_mul (pos zero) b a_positive b_positive = absurd a_positive.lt
@@ -171,7 +179,7 @@ column_back cap n j rows next below e point =
       meets = carried.meets;
     }
 
-next_back : (cap n left j : ℕ) (rows out : List Combination) (next : Result (List Combination) Stop) → j + suc left ≤ n
+next_back : (cap n left j : ℕ) (rows out : List Combination) (next : Result (List Combination) EarlyEnd) → j + suc left ≤ n
     → list_of cap (projected j rows) ≡ next → eliminate cap left (suc j) next ≡ Ok out
     → ((mid : List Combination) → eliminate cap left (suc j) (Ok mid) ≡ Ok out → HasWidePoint n mid) → HasWidePoint n rows
 next_back cap n left j rows out (Err stop) inside e ends later = absurd (eliminate_err cap left (suc j) stop out ends)

@@ -7,8 +7,9 @@ use Rattle.std.proofs.lemmas.Nat.Gcd.{dvd_trans, dvd-zero}
 use Rattle.lin_terms.specs.Vectors.{dot}
 use Rattle.lin_terms.specs.Row.{Allows, Meets}
 use Rattle.lin_terms.specs.Divisor.{gcd_of, floor_div}
-use Rattle.lin_terms.proofs.Ring.{as_dif, same_dif, difs}
-use Rattle.lin_terms.proofs.Divisors.{DividesAll, gcd_of_divides, exact_quotient, dot-quotients}
+use Rattle.elimination.proofs.Ring.{as_dif, same_dif, difs}
+use Rattle.lin_terms.specs.Divisor.{DividesAll}
+use Rattle.lin_terms.proofs.Laws.{gcd_of_divides, exact_quotient, dot-quotients}
 use Rattle.elimination.specs.Combination.{Combination, entry}
 use Rattle.elimination.specs.Joining.{numbers_of, divided, primitive}
 use Rattle.elimination.proofs.Lists.{all_weaker, all_front, all_back}

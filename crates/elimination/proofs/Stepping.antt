@@ -1,88 +1,118 @@
--- Rows that join one after the other, and what stops them.
-use Rattle.std.proofs.Common.{◌≡◌, ℕ, zero, suc, ◌+◌, ◌<◌, Bool, true, false, cond, List, [], ◌∷◌, ◌++◌, map, refl, sym, ◌∙◌, ap, length, get_or, drop, Result, Ok, Err}
-use Rattle.std.specs.Prelude.{filter}
-use Rattle.std.proofs.lemmas.List.{drop_more}
+-- Rows that join one after the other, and what ends them.
+use Rattle.std.proofs.Common.{◌≡◌, ℕ, zero, suc, ◌<◌, ◌+◌, List, [], ◌∷◌, ◌++◌, refl, sym, ◌∙◌, ap, subst, append_assoc, append-nil, length, get_or, take, drop, drop-cons, Option, Some, None, Result, Ok, Err}
+use Rattle.std.specs.Iterator.{Yields}
+use Rattle.std.proofs.lemmas.Iterator.{YieldsList}
+use Rattle.std.proofs.lemmas.Iterator.Consumers.{YieldsList-turn, YieldsList-so_far, YieldsList-end}
+use Rattle.std.proofs.lemmas.List.{take-append-drop, take_more, map-id}
 use Rattle.elimination.specs.declared.answer.Limit.TheVariants.{WideRow, ManyRows, Memory}
-use Rattle.elimination.specs.declared.answer.Stop.{Stop}
-use Rattle.elimination.specs.declared.answer.Stop.TheVariants.{Contradiction, AtLimit}
-use Rattle.elimination.specs.Combination.{Combination, entry, is_positive}
-use Rattle.elimination.specs.Column.{paired, pairs, lower_bounds}
+use Rattle.elimination.specs.declared.answer.EarlyEnd.{EarlyEnd}
+use Rattle.elimination.specs.declared.answer.EarlyEnd.TheVariants.{Contradiction, AtLimit}
+use Rattle.elimination.specs.declared.joining.JoinedRows.{JoinedRows}
+use Rattle.elimination.specs.Combination.{Combination}
 use Rattle.elimination.specs.Joining.{joined, joined_each}
 use Rattle.elimination.specs.Eliminated.{eliminate}
-use Rattle.elimination.specs.Outcome.{IsOutcome}
+use Rattle.elimination.specs.Outcome.{EndsEarly, Joins}
 
--- what stopped a list stays
-stopped_each : (cap : ℕ) (stop : Stop) (later : List Combination) → joined_each cap (Err stop) later ≡ Err stop
-stopped_each cap stop [] = refl
-stopped_each cap stop (row ∷ later) = refl
+-- what ended a list stays
+pub ended_each : (cap : ℕ) (early : EarlyEnd) (later : List Combination) → joined_each cap (Err early) later ≡ Err early
+ended_each cap early [] = refl
+ended_each cap early (row ∷ later) = refl
 
-pub joined_append : (cap : ℕ) (before : Result (List Combination) Stop) (xs ys : List Combination)
+pub joined_append : (cap : ℕ) (before : Result (List Combination) EarlyEnd) (xs ys : List Combination)
     → joined_each cap before (xs ++ ys) ≡ joined_each cap (joined_each cap before xs) ys
-joined_append cap (Err stop) [] ys = refl
-joined_append cap (Err stop) (x ∷ xs) ys = stopped_each cap stop ys ∙ refl
+joined_append cap (Err early) [] ys = refl
+joined_append cap (Err early) (x ∷ xs) ys = ended_each cap early ys ∙ refl
 joined_append cap (Ok rows) [] ys = refl
 joined_append cap (Ok rows) (x ∷ xs) ys = joined_append cap (joined cap rows x) xs ys
 
-pub eliminate_stopped : (cap left j : ℕ) (stop : Stop) → eliminate cap left j (Err stop) ≡ Err stop
-eliminate_stopped cap zero j stop = refl
-eliminate_stopped cap (suc left) j stop = refl
+joined_none : (cap : ℕ) (before : Result (List Combination) EarlyEnd) → joined_each cap before [] ≡ before
+joined_none cap (Err early) = refl
+joined_none cap (Ok rows) = refl
 
--- where what comes first is stopped, and what comes next leaves it so, all is stopped
-stopped_first : (next : Result (List Combination) Stop → Result (List Combination) Stop) → ((stop : Stop) → next (Err stop) ≡ Err stop)
-    → (first target : Result (List Combination) Stop) (stop : Stop) (after last : List Combination)
-    → next first ≡ target → IsOutcome first (Err stop) after → IsOutcome target (Err stop) last
-stopped_first next stays first target (Contradiction multipliers) after last e is = sym e ∙ ap next is ∙ stays (Contradiction multipliers)
-stopped_first next stays first target (AtLimit WideRow) after last e is = sym e ∙ ap next is ∙ stays (AtLimit WideRow)
-stopped_first next stays first target (AtLimit ManyRows) after last e is = sym e ∙ ap next is ∙ stays (AtLimit ManyRows)
-stopped_first next stays first target (AtLimit Memory) after last e is = tt
+-- one row alone
+pub joined_one : (cap : ℕ) (rows : List Combination) (row : Combination) → joined_each cap (Ok rows) (row ∷ []) ≡ joined cap rows row
+joined_one cap rows row = joined_none cap (joined cap rows row)
 
--- where the first rows stop the list, all do
-pub stops : (cap : ℕ) (first target : Result (List Combination) Stop) (stop : Stop) (after : List Combination) (later : List Combination)
-    → joined_each cap first later ≡ target → IsOutcome first (Err stop) after → IsOutcome target (Err stop) after
-stops cap first target stop after later e is =
-    stopped_first (λ before. joined_each cap before later) (λ stop. stopped_each cap stop later) first target stop after after e is
+pub eliminate_ended : (cap left j : ℕ) (early : EarlyEnd) → eliminate cap left j (Err early) ≡ Err early
+eliminate_ended cap zero j early = refl
+eliminate_ended cap (suc left) j early = refl
 
--- the same of rows in front of others
-pub front_stops : (cap : ℕ) (start xs ys : List Combination) (stop : Stop) (after : List Combination)
-    → IsOutcome (joined_each cap (Ok start) xs) (Err stop) after → IsOutcome (joined_each cap (Ok start) (xs ++ ys)) (Err stop) after
-front_stops cap start xs ys stop after is =
-    stops cap (joined_each cap (Ok start) xs) (joined_each cap (Ok start) (xs ++ ys)) stop after ys (sym (joined_append cap (Ok start) xs ys)) is
+-- where what comes first ends early, and what comes next leaves it so, all ends early
+pub ends_first : (next : Result (List Combination) EarlyEnd → Result (List Combination) EarlyEnd) → ((early : EarlyEnd) → next (Err early) ≡ Err early)
+    → (first target : Result (List Combination) EarlyEnd) (early : EarlyEnd) → next first ≡ target → EndsEarly first early → EndsEarly target early
+ends_first next stays first target (Contradiction multipliers) e is = sym e ∙ ap next is ∙ stays (Contradiction multipliers)
+ends_first next stays first target (AtLimit WideRow) e is = sym e ∙ ap next is ∙ stays (AtLimit WideRow)
+ends_first next stays first target (AtLimit ManyRows) e is = sym e ∙ ap next is ∙ stays (AtLimit ManyRows)
+ends_first next stays first target (AtLimit Memory) e is = tt
 
--- the rows behind, after those in front have joined
-pub continued : (cap : ℕ) (start mid xs ys : List Combination) → joined_each cap (Ok start) xs ≡ Ok mid → joined_each cap (Ok mid) ys ≡ joined_each cap (Ok start) (xs ++ ys)
-continued cap start mid xs ys first = sym (joined_append cap (Ok start) xs ys ∙ ap (λ t. joined_each cap t ys) first)
+-- ---- the list as it stands
 
--- where a list is stopped, so is the elimination
-pub stops_there : (cap left j : ℕ) (first target : Result (List Combination) Stop) (stop : Stop) (after last : List Combination)
-    → eliminate cap left j first ≡ target → IsOutcome first (Err stop) after → IsOutcome target (Err stop) last
-stops_there cap left j first target stop after last e is =
-    stopped_first (λ before. eliminate cap left j before) (eliminate_stopped cap left j) first target stop after last e is
+module _ (old mid : JoinedRows) (xs : List Combination) (so_far : Joins old xs mid (Ok tt)) where
+  -- more rows behind those that have joined
+  joined_behind : (ys : List Combination) → joined_each mid.cap (Ok mid.rows.items) ys ≡ joined_each old.cap (Ok old.rows.items) (xs ++ ys)
+  joined_behind ys =
+      ap (λ cap. joined_each cap (Ok mid.rows.items) ys) so_far.1
+      ∙ ap (λ t. joined_each old.cap t ys) (sym so_far.0)
+      ∙ sym (joined_append old.cap (Ok old.rows.items) xs ys)
 
--- where they join, the others are left
-pub goes_on : (cap : ℕ) (first target : Result (List Combination) Stop) (after : List Combination) (later : List Combination)
-    → joined_each cap first later ≡ target → first ≡ Ok after → joined_each cap (Ok after) later ≡ target
-goes_on cap first target after later e is = ap (λ t. joined_each cap t later) (sym is) ∙ e
+  pub joins_more : (ys : List Combination) (new : JoinedRows) → Joins mid ys new (Ok tt) → Joins old (xs ++ ys) new (Ok tt)
+  joins_more ys new more = (sym (joined_behind ys) ∙ more.0, more.1 ∙ so_far.1)
 
--- one more row of those that pass a test
-pub filter-more : (test : Combination → Bool) (i : ℕ) (old : List Combination) (row : Combination) (passes : Bool) → i < length old → row ≡ get_or old i row
-    → test row ≡ passes → filter test (drop i old) ≡ cond passes (row ∷ filter test (drop (i + 1) old)) (filter test (drop (i + 1) old))
-filter-more test i old row passes inside is e =
-    ap (filter test) (drop_more old i row inside ∙ ap (λ (r : Combination). r ∷ drop (i + 1) old) (sym is))
-    ∙ ap (λ t. cond t (row ∷ filter test (drop (i + 1) old)) (filter test (drop (i + 1) old))) e
+  -- where the rows that come next end the list early, later ones do not matter
+  pub ends_then : (ys zs all : List Combination) (new : JoinedRows) (early : EarlyEnd) → all ≡ (xs ++ ys) ++ zs → Joins mid ys new (Err early)
+      → Joins old all new (Err early)
+  ends_then ys zs all new early is ends =
+      ends_first (λ before. joined_each old.cap before zs) (λ e. ended_each old.cap e zs) (joined_each mid.cap (Ok mid.rows.items) ys)
+      (joined_each old.cap (Ok old.rows.items) all) early
+      (ap (λ t. joined_each old.cap t zs) (joined_behind ys) ∙ sym (joined_append old.cap (Ok old.rows.items) (xs ++ ys) zs)
+      ∙ ap (λ t. joined_each old.cap (Ok old.rows.items) t) (sym is)) ends
 
--- a lower bound with each upper bound, and then the later ones
-pub lower_joins : (cap j i : ℕ) (old uppers : List Combination) (lower : Combination) (rows : List Combination) (target : Result (List Combination) Stop)
-    → i < length old → lower ≡ get_or old i lower → is_positive (entry j lower) ≡ true
-    → joined_each cap (Ok rows) (pairs j (lower_bounds j (drop i old)) uppers) ≡ target
-    → joined_each cap (joined_each cap (Ok rows) (map (paired j lower) uppers)) (pairs j (lower_bounds j (drop (i + 1) old)) uppers) ≡ target
-lower_joins cap j i old uppers lower rows target inside is positive so_far =
-    sym (ap (λ lowers. joined_each cap (Ok rows) (pairs j lowers uppers)) (filter-more (λ row. is_positive (entry j row)) i old lower true inside is positive)
-    ∙ joined_append cap (Ok rows) (map (paired j lower) uppers) (pairs j (lower_bounds j (drop (i + 1) old)) uppers)) ∙ so_far
+  -- whatever comes of the rows that come next
+  pub joins_on : (ys : List Combination) (new : JoinedRows) (result : Result (Unit {0}) EarlyEnd) → Joins mid ys new result → Joins old (xs ++ ys) new result
+  joins_on ys new (Ok done) next = joins_more ys new next
+  joins_on ys new (Err early) next = ends_then ys [] (xs ++ ys) new early (sym (append-nil (xs ++ ys))) next
 
--- another row
-pub other_joins : (cap j i : ℕ) (old uppers : List Combination) (row : Combination) (rows : List Combination) (target : Result (List Combination) Stop)
-    → i < length old → row ≡ get_or old i row → is_positive (entry j row) ≡ false
-    → joined_each cap (Ok rows) (pairs j (lower_bounds j (drop i old)) uppers) ≡ target
-    → joined_each cap (Ok rows) (pairs j (lower_bounds j (drop (i + 1) old)) uppers) ≡ target
-other_joins cap j i old uppers row rows target inside is other so_far =
-    sym (ap (λ lowers. joined_each cap (Ok rows) (pairs j lowers uppers)) (filter-more (λ r. is_positive (entry j r)) i old row false inside is other)) ∙ so_far
+-- nothing has joined yet
+pub joins_nothing : (old : JoinedRows) → Joins old [] old (Ok tt)
+joins_nothing old = (refl, refl)
+
+-- ---- a walk over a list, each element of which gives some rows that join
+
+module _ {X : Type 0} (given : List X → List Combination) (behind : (xs ys : List X) → given (xs ++ ys) ≡ given xs ++ given ys) where
+  pub walk_more : (old mid new : JoinedRows) (xs : List X) (x : X) → Joins old (given xs) mid (Ok tt) → Joins mid (given (x ∷ [])) new (Ok tt)
+      → Joins old (given (xs ++ x ∷ [])) new (Ok tt)
+  walk_more old mid new xs x so_far more =
+      subst (λ (rows : List Combination). Joins old rows new (Ok tt)) (sym (behind xs (x ∷ [])))
+      (joins_more old mid (given xs) so_far (given (x ∷ [])) new more)
+
+  pub walk_ends : (old mid new : JoinedRows) (xs zs all : List X) (x : X) (early : EarlyEnd) → all ≡ (xs ++ x ∷ []) ++ zs → Joins old (given xs) mid (Ok tt)
+      → Joins mid (given (x ∷ [])) new (Err early) → Joins old (given all) new (Err early)
+  walk_ends old mid new xs zs all x early is so_far ends =
+      let rows = ap given is ∙ behind (xs ++ x ∷ []) zs ∙ ap (λ t. t ++ given zs) (behind xs (x ∷ [])) in
+      ends_then old mid (given xs) so_far (given (x ∷ [])) (given zs) (given all) new early rows ends
+
+-- the elements before a place, the element there, and those behind it
+pub parts : {X : Type 0} (xs : List X) (i : ℕ) (x : X) → i < length xs → x ≡ get_or xs i x → xs ≡ (take i xs ++ x ∷ []) ++ drop (suc i) xs
+parts xs i x inside is =
+    sym (append_assoc (take i xs) (x ∷ []) (drop (suc i) xs)
+    ∙ ap (λ t. take i xs ++ t) (ap (λ t. t ∷ drop (suc i) xs) is ∙ sym (drop-cons xs i x inside))
+    ∙ take-append-drop i xs)
+
+-- one more element of a slice
+pub taken : {X : Type 0} (xs : List X) (i : ℕ) (x : X) → i < length xs → x ≡ get_or xs i x → take (i + 1) xs ≡ take i xs ++ x ∷ []
+taken xs i x inside is = take_more xs i x inside ∙ ap (λ t. take i xs ++ t ∷ []) (sym is)
+
+-- ---- a walk that takes the elements out of a vector
+
+module _ {S A : Type 0} {steps : S → Option A → S → Type 0} {s : S} {all : List A} (road : YieldsList steps (λ y. y) s all) where
+  -- the elements so far, the next, and those behind it
+  pub yielded_parts : (xs : List A) (t : S) (so_far : Yields steps s xs t) (r : Option A) (u : S) (x : A) → r ≡ Some x → steps t r u
+      → all ≡ (xs ++ x ∷ []) ++ drop (suc (length xs)) all
+  yielded_parts xs t so_far r u x is step =
+      let turn = YieldsList-turn road xs t so_far r u x is step in
+      parts all (length xs) x turn.0 turn.1
+      ∙ ap (λ front. (front ++ x ∷ []) ++ drop (suc (length xs)) all) (sym (YieldsList-so_far road xs t so_far) ∙ map-id xs)
+
+  -- at the end all have come
+  pub yielded_all : (xs : List A) (t : S) (so_far : Yields steps s xs t) (r : Option A) (u : S) → r ≡ None → steps t r u → xs ≡ all
+  yielded_all xs t so_far r u is step = sym (map-id xs) ∙ (YieldsList-end road xs t so_far r u is step).0

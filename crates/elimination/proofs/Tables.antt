@@ -1,5 +1,5 @@
 -- The list of all multipliers, and the list of those that are kept.
-use Rattle.std.proofs.Common.{◌≡◌, ◌↔◌, ℕ, zero, suc, ◌+◌, ◌-◌, ◌<◌, ◌≤◌, Bool, true, false, cond, eqb, List, [], ◌∷◌, ◌++◌, map, arith, refl, sym, ◌∙◌, ap, subst, length, replicate}
+use Rattle.std.proofs.Common.{◌≡◌, ◌↔◌, ℕ, zero, suc, ◌+◌, ◌-◌, ◌<◌, ◌≤◌, Bool, true, false, cond, eqb, List, [], ◌∷◌, ◌++◌, map, arith, refl, sym, ◌∙◌, ap, subst, replicate, append_assoc}
 use Rattle.std.specs.Int.{int_div_euclid}
 use Rattle.std.specs.Prelude.{ℤ, pos, negsuc, ◌<ℤ◌, ◌+ℤ◌, ◌*ℤ◌, All}
 use Rattle.std.specs.List.{AllByRecursion}
@@ -7,21 +7,11 @@ use Rattle.std.proofs.lemmas.Int.{ints}
 use Rattle.std.proofs.lemmas.Bool.{eq-eqb}
 use Rattle.std.proofs.lemmas.Bool.Decides.{nat_tests}
 use Rattle.std.proofs.lemmas.List.Elements.{All-from_recursion, recursion_from_All}
-use Rattle.lin_terms.specs.Vectors.{plus, scaled}
-use Rattle.lin_terms.specs.Row.{IsNarrow}
+use Rattle.lin_terms.specs.Vectors.{scaled}
+use Rattle.lin_terms.specs.Bounds.{FitsRow}
 use Rattle.elimination.specs.declared.multipliers.Multiplier.{Multiplier}
 use Rattle.elimination.specs.Sparse.{at, table, IsRising, front_of, behind_row, quotients_of}
-use Rattle.lin_terms.proofs.Entries.{moved}
 use Rattle.elimination.proofs.Merging.{rising_bounds, rising_behind, from_first, at-behind}
-
-pub length-table : (first count : ℕ) (entries : List Multiplier) → length (table first count entries) ≡ count
-length-table first zero entries = refl
-length-table first (suc count) entries = ap suc (length-table (suc first) count entries)
-
-pub table-sum : (k l : ℤ) (first count : ℕ) (made ps qs : List Multiplier) → ((row : ℕ) → at made row ≡ (k *ℤ at ps row) +ℤ (l *ℤ at qs row))
-    → table first count made ≡ plus (scaled k (table first count ps)) (scaled l (table first count qs))
-table-sum k l first zero made ps qs sums = refl
-table-sum k l first (suc count) made ps qs sums = rw (sums first, table-sum k l (suc first) count made ps qs sums) refl
 
 -- ---- rows that are not there
 
@@ -63,7 +53,8 @@ module _ (P : ℤ → Type 0) where
   rows_of_table first (suc count) entries all row from below =
       row_case (eqb first row) first row entries refl all.0 (λ after. rows_of_table (suc first) count entries all.1 row after (omega arith)) from
 
-  entries_of_rows : (low high : ℕ) (entries : List Multiplier) → IsRising low high entries → ((row : ℕ) → low ≤ row → row < high → P (at entries row)) → EntriesHave entries
+  entries_of_rows : (low high : ℕ) (entries : List Multiplier) → IsRising low high entries → ((row : ℕ) → low ≤ row → row < high → P (at entries row))
+      → EntriesHave entries
   entries_of_rows low high [] rising rows = tt
   entries_of_rows low high (entry ∷ entries) rising rows =
       let bound = rising_bounds (suc entry.row) high entries rising.1 in (
@@ -76,7 +67,8 @@ module _ (P : ℤ → Type 0) where
   entries_have count entries rising all =
       entries_of_rows 0 count entries rising (λ row from below. rows_of_table 0 count entries all row from (omega arith))
 
-  entry_case : (test : Bool) (low high row : ℕ) (entry : Multiplier) (entries : List Multiplier) → eqb entry.row row ≡ test → IsRising low high (entry ∷ entries)
+  entry_case : (test : Bool) (low high row : ℕ) (entry : Multiplier) (entries : List Multiplier) → eqb entry.row row ≡ test
+      → IsRising low high (entry ∷ entries)
       → P entry.value → P (at entries row) → P (at (entry ∷ entries) row)
   entry_case true low high row entry entries is rising here later =
       let same : entry.row ≡ row = grind (arith, nat_tests) in
@@ -88,12 +80,14 @@ module _ (P : ℤ → Type 0) where
   at_has low high row (entry ∷ entries) is_zero rising all =
       entry_case (eqb entry.row row) low high row entry entries refl rising all.0 (at_has (suc entry.row) high row entries is_zero rising.1 all.1)
 
-  table_of : (low high first count : ℕ) (entries : List Multiplier) → P (pos 0) → IsRising low high entries → EntriesHave entries → AllByRecursion P (table first count entries)
+  table_of : (low high first count : ℕ) (entries : List Multiplier) → P (pos 0) → IsRising low high entries → EntriesHave entries
+      → AllByRecursion P (table first count entries)
   table_of low high first zero entries is_zero rising all = tt
   table_of low high first (suc count) entries is_zero rising all =
       (at_has low high first entries is_zero rising all, table_of low high (suc first) count entries is_zero rising all)
 
-  pub table_has : (count : ℕ) (entries : List Multiplier) → P (pos 0) → IsRising 0 count entries → EntriesHave entries → AllByRecursion P (table 0 count entries)
+  pub table_has : (count : ℕ) (entries : List Multiplier) → P (pos 0) → IsRising 0 count entries → EntriesHave entries
+      → AllByRecursion P (table 0 count entries)
   table_has count entries is_zero rising all = table_of 0 count 0 count entries is_zero rising all
 
 -- ---- quotients
@@ -114,7 +108,8 @@ module _ (divisor : ℤ) (positive : pos 0 <ℤ divisor) where
       rw (others refl, int_zero divisor positive, plus_zero value) (plus_zero (int_div_euclid value divisor))
   quotient_case false value sum others = rw (zero_plus sum) (zero_plus (int_div_euclid sum divisor))
 
-  at-quotients : (low high row : ℕ) (entries : List Multiplier) → IsRising low high entries → at (quotients_of divisor entries) row ≡ int_div_euclid (at entries row) divisor
+  at-quotients : (low high row : ℕ) (entries : List Multiplier) → IsRising low high entries
+      → at (quotients_of divisor entries) row ≡ int_div_euclid (at entries row) divisor
   at-quotients low high row [] rising = sym (int_zero divisor positive)
   at-quotients low high row (entry ∷ entries) rising =
       ap (λ t. cond (eqb entry.row row) (int_div_euclid entry.value divisor) (pos 0) +ℤ t) (at-quotients (suc entry.row) high row entries rising.1)
@@ -152,7 +147,11 @@ table_step : (row count : ℕ) (left : List Multiplier) → row < count → IsRi
     → table row (count - row) left ≡ front_of row left ∷ table (suc row) (count - suc row) (behind_row row left)
 table_step row count left below rising =
     let more : count - row ≡ suc (count - suc row) = omega arith in
-    rw more (rw (at_front row count left rising, table_same (suc row) (count - suc row) left (behind_row row left) (λ later after. at_behind_later row later left after)) refl)
+    rw more (rw (
+      at_front row count left rising,
+      table_same (suc row) (count - suc row) left (behind_row row left)
+          (λ later after. at_behind_later row later left after),
+    ) refl)
 
 pub list_step : (times : ℤ) (row count : ℕ) (left : List Multiplier) (made after all : List ℤ) → row < count → IsRising row count left
     → made ++ scaled times (table row (count - row) left) ≡ all → after ≡ made ++ (times *ℤ front_of row left) ∷ []
@@ -160,8 +159,8 @@ pub list_step : (times : ℤ) (row count : ℕ) (left : List Multiplier) (made a
 list_step times row count left made after all below rising so_far is =
     let next : row + 1 ≡ suc row = omega arith in
     rw (next, is)
-    (moved made (scaled times (table row (count - row) left)) (scaled times (table (suc row) (count - suc row) (behind_row row left))) all (times *ℤ front_of row left)
-    (ap (λ t. scaled times t) (table_step row count left below rising)) so_far)
+    (append_assoc made ((times *ℤ front_of row left) ∷ []) (scaled times (table (suc row) (count - suc row) (behind_row row left)))
+    ∙ ap (λ t. made ++ scaled times t) (sym (table_step row count left below rising)) ∙ so_far)
 
 pub rising_step : (row count : ℕ) (left : List Multiplier) → row < count → IsRising row count left → IsRising (row + 1) count (behind_row row left)
 rising_step row count left below rising =
@@ -189,22 +188,16 @@ table-unit first (suc before) behind row value is =
 
 -- ---- as the code has them
 
-pub narrow_entries : (count : ℕ) (entries : List Multiplier) (all : List ℤ) → IsRising 0 count entries → table 0 count entries ≡ all → All IsNarrow all
-    → All (λ entry. IsNarrow entry.value) entries
-narrow_entries count entries all rising is narrow =
-    All-from_recursion (λ (entry : Multiplier). IsNarrow entry.value) entries
-    (entries_have IsNarrow count entries rising (recursion_from_All IsNarrow (table 0 count entries) (subst (All IsNarrow) (sym is) narrow)))
+pub fitting_entries : (count : ℕ) (entries : List Multiplier) (all : List ℤ) → IsRising 0 count entries → table 0 count entries ≡ all → All FitsRow all
+    → All (λ entry. FitsRow entry.value) entries
+fitting_entries count entries all rising is fits =
+    All-from_recursion (λ (entry : Multiplier). FitsRow entry.value) entries
+    (entries_have FitsRow count entries rising (recursion_from_All FitsRow (table 0 count entries) (subst (All FitsRow) (sym is) fits)))
 
--- lists that are as long are of as many rows
-pub same_count : (first_count second_count : ℕ) (firsts seconds : List Multiplier) (first second : List ℤ) → table 0 first_count firsts ≡ first
-    → table 0 second_count seconds ≡ second → length first ≡ length second → second_count ≡ first_count
-same_count first_count second_count firsts seconds first second first_is second_is lengths =
-    omega (arith, length-table 0 first_count firsts, length-table 0 second_count seconds, ap length first_is, ap length second_is)
-
-pub narrow_table : (count : ℕ) (entries : List Multiplier) (all : List ℤ) → IsRising 0 count entries → table 0 count entries ≡ all
-    → All (λ entry. IsNarrow entry.value) entries ↔ All IsNarrow all
-narrow_table count entries all rising is = (
-  λ narrow. subst (All IsNarrow) is (All-from_recursion IsNarrow (table 0 count entries)
-      (table_has IsNarrow count entries (omega arith) rising (recursion_from_All (λ (entry : Multiplier). IsNarrow entry.value) entries narrow))),
-  λ narrow. narrow_entries count entries all rising is narrow,
+pub fitting_table : (count : ℕ) (entries : List Multiplier) (all : List ℤ) → IsRising 0 count entries → table 0 count entries ≡ all
+    → All (λ entry. FitsRow entry.value) entries ↔ All FitsRow all
+fitting_table count entries all rising is = (
+  λ fits. subst (All FitsRow) is (All-from_recursion FitsRow (table 0 count entries)
+      (table_has FitsRow count entries (omega arith) rising (recursion_from_All (λ (entry : Multiplier). FitsRow entry.value) entries fits))),
+  λ fits. fitting_entries count entries all rising is fits,
 )

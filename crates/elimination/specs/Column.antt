@@ -49,6 +49,7 @@ pairs j lowers uppers = flat_map (λ lower. map (paired j lower) uppers) lowers
 
 -- ---- both
 
+-- the rows without column j, where this pivot and the other rows were found, or no pivot
 abbrev pub projected_by : ℕ → List Combination → Option (Combination × List Combination) → List Combination
 projected_by j rows None = without j rows ++ pairs j (lower_bounds j rows) (upper_bounds j rows)
 projected_by j rows (Some (pivot, others)) = map (reduced j pivot) others

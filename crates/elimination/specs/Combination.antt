@@ -8,6 +8,13 @@ pub record Combination : Type 0 where
   pub row : Row
   pub multipliers : List ℤ
 
+-- the combination of these parts
+abbrev pub combination_of : List ℤ → ℤ → Bool → List ℤ → Combination
+combination_of coefs constant equality multipliers = record {
+  row = record { coefs = coefs; constant = constant; equality = equality };
+  multipliers = multipliers;
+}
+
 -- the coefficient in column j, and 0 past the last column
 abbrev pub entry : ℕ → Combination → ℤ
 entry j combination = slice_index_or combination.row.coefs j (pos 0)

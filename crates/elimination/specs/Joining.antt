@@ -6,8 +6,8 @@ use lib.Pointwise.{pointwise}
 use Rattle.lin_terms.specs.Divisor.{gcd_of, floor_div}
 use Rattle.lin_terms.specs.Tight.{divided_row}
 use Rattle.elimination.specs.declared.answer.Limit.TheVariants.{WideRow, ManyRows}
-use Rattle.elimination.specs.declared.answer.Stop.{Stop}
-use Rattle.elimination.specs.declared.answer.Stop.TheVariants.{Contradiction, AtLimit}
+use Rattle.elimination.specs.declared.answer.EarlyEnd.{EarlyEnd}
+use Rattle.elimination.specs.declared.answer.EarlyEnd.TheVariants.{Contradiction, AtLimit}
 use Rattle.elimination.specs.Combination.{Combination, is_zero, is_positive, is_negative}
 
 -- ---- small numbers
@@ -33,6 +33,7 @@ is_wide numbers = list_any (λ number. nat_le (2 ^ 56) (unsigned_abs number)) nu
 
 -- ---- rows without variables
 
+-- Whether each coefficient is 0.
 abbrev pub has_no_variable : List ℤ → Bool
 has_no_variable coefs = list_all is_zero coefs
 
@@ -42,14 +43,14 @@ allows true constant = is_zero constant
 allows false constant = not (is_negative constant)
 
 -- the multipliers with which the constant of a row that does not hold is negative: of an equality it may be positive
-abbrev pub turned : ℤ → List ℤ → List ℤ
-turned constant multipliers = if is_positive constant then map neg_ℤ multipliers else multipliers
+abbrev pub refuting_multipliers : ℤ → List ℤ → List ℤ
+refuting_multipliers constant multipliers = if is_positive constant then map neg_ℤ multipliers else multipliers
 
 -- A row without variables is left out where it holds, and is a contradiction otherwise.
-abbrev pub judged : List Combination → Combination → Result (List Combination) Stop
+abbrev pub judged : List Combination → Combination → Result (List Combination) EarlyEnd
 judged rows row =
     if allows row.row.equality row.row.constant then Ok rows
-    else Err (Contradiction (turned row.row.constant row.multipliers))
+    else Err (Contradiction (refuting_multipliers row.row.constant row.multipliers))
 
 -- ---- rows with variables
 
@@ -71,28 +72,32 @@ placed (earlier ∷ rows) row =
 abbrev pub added : List Combination → Combination → List Combination
 added rows row = if row.row.equality then rows ++ row ∷ [] else placed rows row
 
-abbrev pub counted : ℕ → List Combination → Result (List Combination) Stop
+-- The list is what is wanted, unless it has more rows than the cap allows.
+abbrev pub counted : ℕ → List Combination → Result (List Combination) EarlyEnd
 counted cap rows = if nat_le (length rows) cap then Ok rows else Err (AtLimit ManyRows)
 
 -- ---- all rows
 
--- the list with a primitive row, or what stops it
-abbrev pub admitted : ℕ → List Combination → Combination → Result (List Combination) Stop
-admitted cap rows row =
-    if is_wide (numbers_of row) then Err (AtLimit WideRow)
-    else if has_no_variable row.row.coefs then judged rows row
+-- the list with a row whose numbers are below 2^56 in size, or what ends it
+abbrev pub kept : ℕ → List Combination → Combination → Result (List Combination) EarlyEnd
+kept cap rows row =
+    if has_no_variable row.row.coefs then judged rows row
     else counted cap (added rows row)
 
+-- the list with a primitive row, or what ends it
+abbrev pub admitted : ℕ → List Combination → Combination → Result (List Combination) EarlyEnd
+admitted cap rows row = if is_wide (numbers_of row) then Err (AtLimit WideRow) else kept cap rows row
+
 -- the list with the row
-abbrev pub joined : ℕ → List Combination → Combination → Result (List Combination) Stop
+abbrev pub joined : ℕ → List Combination → Combination → Result (List Combination) EarlyEnd
 joined cap rows row = admitted cap rows (primitive row)
 
--- the list with these rows, in order, up to the first that stops it
-abbrev pub joined_each : ℕ → Result (List Combination) Stop → List Combination → Result (List Combination) Stop
-joined_each cap (Err stop) later = Err stop
+-- the list with these rows, in order, up to the first that ends it
+abbrev pub joined_each : ℕ → Result (List Combination) EarlyEnd → List Combination → Result (List Combination) EarlyEnd
+joined_each cap (Err early) later = Err early
 joined_each cap (Ok rows) [] = Ok rows
 joined_each cap (Ok rows) (row ∷ later) = joined_each cap (joined cap rows row) later
 
 -- a new list of these rows
-abbrev pub list_of : ℕ → List Combination → Result (List Combination) Stop
+abbrev pub list_of : ℕ → List Combination → Result (List Combination) EarlyEnd
 list_of cap rows = joined_each cap (Ok []) rows

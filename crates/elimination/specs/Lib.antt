@@ -2,6 +2,7 @@ pub mod Combination
 pub mod Column
 pub mod Joining
 pub mod Eliminated
+pub mod Made
 pub mod Laws
 pub mod Sparse
 pub mod Working

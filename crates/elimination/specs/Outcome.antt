@@ -1,23 +1,40 @@
--- What a call that changes a list of rows answers, and what it leaves.
-use Rattle.std.specs.Prelude.{◌≡◌, List, Result, Ok, Err}
+-- What calls that make a list of rows answer, and what they leave.
+use Rattle.std.specs.Prelude.{◌≡◌, List, Result, Ok, Err, Vec}
+use Rattle.std.specs.declared.alloc.Global.{Global}
 use Rattle.elimination.specs.declared.answer.Answer.{Answer}
 use Rattle.elimination.specs.declared.answer.Limit.{Limit}
 use Rattle.elimination.specs.declared.answer.Limit.TheVariants.{WideRow, ManyRows, Memory}
-use Rattle.elimination.specs.declared.answer.Stop.{Stop}
-use Rattle.elimination.specs.declared.answer.Stop.TheVariants.{Contradiction, AtLimit}
+use Rattle.elimination.specs.declared.answer.EarlyEnd.{EarlyEnd}
+use Rattle.elimination.specs.declared.answer.EarlyEnd.TheVariants.{Contradiction, AtLimit}
+use Rattle.elimination.specs.declared.joining.JoinedRows.{JoinedRows}
 use Rattle.elimination.specs.Combination.{Combination}
+use Rattle.elimination.specs.Joining.{joined_each}
 
--- The call does what is wanted, and leaves that list or stops so, unless memory runs out.
-abbrev pub IsOutcome : Result (List Combination) Stop → Result (Unit {0}) Stop → List Combination → Type 0
-IsOutcome wanted (Ok done) after = wanted ≡ Ok after
-IsOutcome wanted (Err (Contradiction multipliers)) after = wanted ≡ Err (Contradiction multipliers)
-IsOutcome wanted (Err (AtLimit WideRow)) after = wanted ≡ Err (AtLimit WideRow)
-IsOutcome wanted (Err (AtLimit ManyRows)) after = wanted ≡ Err (AtLimit ManyRows)
-IsOutcome wanted (Err (AtLimit Memory)) after = Unit {0}
+-- What is wanted ends early so, unless memory runs out.
+abbrev pub EndsEarly : Result (List Combination) EarlyEnd → EarlyEnd → Type 0
+EndsEarly wanted (Contradiction multipliers) = wanted ≡ Err (Contradiction multipliers)
+EndsEarly wanted (AtLimit WideRow) = wanted ≡ Err (AtLimit WideRow)
+EndsEarly wanted (AtLimit ManyRows) = wanted ≡ Err (AtLimit ManyRows)
+EndsEarly wanted (AtLimit Memory) = Unit {0}
 
--- The same, whatever list is left.
-abbrev pub IsEnd : Result (List Combination) Stop → Result (Unit {0}) Stop → Type 0
-IsEnd wanted result = (after : List Combination) × IsOutcome wanted result after
+-- The call leaves the list that is wanted, under the same cap, or ends early as is wanted.
+abbrev pub Leaves : JoinedRows → Result (List Combination) EarlyEnd → JoinedRows → Result (Unit {0}) EarlyEnd → Type 0
+Leaves old wanted new (Ok done) = (wanted ≡ Ok new.rows.items) × (new.cap ≡ old.cap)
+Leaves old wanted new (Err early) = EndsEarly wanted early
+
+-- The rows join the old list in order and leave the new one, or end it early.
+abbrev pub Joins : JoinedRows → List Combination → JoinedRows → Result (Unit {0}) EarlyEnd → Type 0
+Joins old rows new result = Leaves old (joined_each old.cap (Ok old.rows.items) rows) new result
+
+-- The call answers the list that is wanted, or ends early as is wanted.
+abbrev pub IsList : Result (List Combination) EarlyEnd → Result (Vec Combination Global) EarlyEnd → Type 0
+IsList wanted (Ok made) = wanted ≡ Ok made.items
+IsList wanted (Err early) = EndsEarly wanted early
+
+-- The call goes on to the end where some list is wanted, or ends early as is wanted.
+abbrev pub IsEnd : Result (List Combination) EarlyEnd → Result (Unit {0}) EarlyEnd → Type 0
+IsEnd wanted (Ok done) = (last : List Combination) × (wanted ≡ Ok last)
+IsEnd wanted (Err early) = EndsEarly wanted early
 
 -- The call answers what is wanted, unless memory runs out.
 abbrev pub IsAnswer : Result Answer Limit → Result Answer Limit → Type 0

@@ -42,5 +42,6 @@ pub record IsAdded (row : ℕ) (value : ℤ) (before after : List Multiplier) : 
 abbrev pub quotient_of : ℤ → Multiplier → Multiplier
 quotient_of divisor entry = record { row = entry.row; value = int_div_euclid entry.value divisor }
 
+-- all multipliers over a divisor, rounded down
 abbrev pub quotients_of : ℤ → List Multiplier → List Multiplier
 quotients_of divisor entries = map (quotient_of divisor) entries

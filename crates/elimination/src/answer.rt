@@ -19,7 +19,8 @@ pub enum Answer {
 pub enum Limit {
     /// A row that would join a list has an entry or a multiplier of 2^56 or more in size.
     WideRow,
-    /// More than 4,096 rows are given, or a list would have more rows than the cap allows.
+    /// There are too many rows, for one of two causes: more than 4,096 rows are given, or a list
+    /// would have more rows than the cap allows.
     ManyRows,
     /// Memory ran out.
     Memory,
@@ -27,19 +28,20 @@ pub enum Limit {
 
 /// What ends an elimination before its last column.
 #[derive(Debug, Drop)]
-pub enum Stop {
-    /// A row without variables does not hold. With these multipliers the given rows add up to a negative number.
+pub enum EarlyEnd {
+    /// A row without variables does not hold. With these multipliers the given rows add up to a
+    /// negative number.
     Contradiction(Items<i128>),
     /// A limit was met.
     AtLimit(Limit),
 }
 
-impl From<AllocError> for Stop {
-    ghost use Rattle.elimination.specs.declared.answer.Stop.TheVariants.{AtLimit};
+impl From<AllocError> for EarlyEnd {
+    ghost use Rattle.elimination.specs.declared.answer.EarlyEnd.TheVariants.{AtLimit};
 
-    ghost from_gives = { λ _ stop. stop ≡ AtLimit Memory };
+    ghost from_gives = { λ _ early. early ≡ AtLimit Memory };
 
-    fn from(_: AllocError) -> Stop {
-        Stop::AtLimit(Limit::Memory)
+    fn from(_: AllocError) -> EarlyEnd {
+        EarlyEnd::AtLimit(Limit::Memory)
     }
 }

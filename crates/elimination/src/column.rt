@@ -1,23 +1,25 @@
-//! One column is eliminated.
-ghost use Rattle.std.specs.Prelude.{◌≡◌, ◌<◌, IfOk, map, All, position, neg_ℤ, ◌*ℤ◌, Ok, ◌++◌};
-ghost use Rattle.lin_terms.specs.Row.{IsNarrow};
+//! One column is eliminated: rows that do not have it join a new list.
+//!
+//! Where an equality has the column, its multiples are added to the other rows (Gauss). Otherwise
+//! the rows without the column join as they are, and then each lower bound of the variable is added
+//! to each upper bound, in order (Fourier, Motzkin).
+ghost use Rattle.std.specs.Prelude.{◌≡◌, IfOk, OnOk, map, position, neg_ℤ, ◌*ℤ◌, [], ◌∷◌, ◌++◌};
+ghost use Rattle.lin_terms.specs.Bounds.{FitsRow};
 ghost use Rattle.elimination.specs.Combination.{Combination, entry, is_zero, is_positive, is_negative, sign, size};
 ghost use Rattle.elimination.specs.Column.{is_pivot, reduced, paired, without, lower_bounds, upper_bounds, pairs, projected};
-ghost use Rattle.elimination.specs.Joining.{joined, joined_each};
-ghost use Rattle.elimination.specs.Working.{AreWorking, AreUniform, IsNarrowCombination};
-ghost use Rattle.elimination.specs.Outcome.{IsOutcome};
+ghost use Rattle.elimination.specs.Outcome.{Joins};
 
-use crate::answer::Stop;
-use crate::combination::{Combination, combined, is_negative, is_positive, is_zero};
-use crate::joining::join;
+use crate::answer::EarlyEnd;
+use crate::combination::{Combination, Sum, is_positive, is_zero};
+use crate::joining::JoinedRows;
 use crate::multipliers::Weights;
-use sqlite_items::Items;
 use std::alloc::{AllocError, Global};
 
-/// How often a row and the pivot are taken so that the column vanishes from their sum.
-fn reducing(pivot: &i128, entry: &i128) -> Weights
-    requires pivot_narrow { IsNarrow pivot.now }
-    requires entry_narrow { IsNarrow entry.now }
+/// How often a row and the pivot are taken so that the column vanishes from their sum, by their
+/// entries in the column.
+fn reducing_weights(pivot: &i128, entry: &i128) -> Weights
+    requires pivot_fits { FitsRow pivot.now }
+    requires entry_fits { FitsRow entry.now }
     ensures first { result.first ≡ size pivot.now }
     ensures second { result.second ≡ neg_ℤ (sign pivot.now *ℤ entry.now) }
 {
@@ -33,9 +35,11 @@ fn reducing(pivot: &i128, entry: &i128) -> Weights
     }
 }
 
-/// How often a lower and an upper bound are taken so that the column vanishes from their sum.
-fn pairing(lower: &i128, upper: &i128) -> Weights
-    requires { IsNarrow upper.now }
+/// How often a lower and an upper bound are taken so that the column vanishes from their sum, by
+/// their entries in it.
+fn pairing_weights(lower: &i128, upper: &i128) -> Weights
+    requires lower_fits { FitsRow lower.now }
+    requires upper_fits { FitsRow upper.now }
     ensures first { result.first ≡ size upper.now }
     ensures second { result.second ≡ lower.now }
 {
@@ -45,6 +49,7 @@ fn pairing(lower: &i128, upper: &i128) -> Weights
     }
 }
 
+/// Whether the row is an equality that has the column.
 fn is_pivot(row: &Combination, j: usize) -> bool
     ensures { result ≡ is_pivot j row.now }
 {
@@ -59,22 +64,14 @@ fn pivot_place(rows: &[Combination], j: usize) -> Option<usize>
 }
 
 /// The row without the column, by an equality that has it.
-fn reduce(
-    alloc: Global,
-    j: usize,
-    pivot: &Combination,
-    row: &Combination,
-) -> Result<Combination, AllocError>
-    requires { AreWorking pivot.now row.now }
-    ensures { IfOk result (λ made. made ≡ reduced j pivot.now row.now) }
+fn reduce(alloc: Global, j: usize, pivot: &Combination, row: Combination) -> Result<Sum, AllocError>
+    ensures { IfOk result (λ made. made ≡ reduced j pivot.now row) }
 {
     if is_zero(row.entry(j)) {
-        let same = row.copy(alloc)?;
-        return Ok(same);
+        return Ok(row.into_sum());
     }
-    let weights = reducing(pivot.entry(j), row.entry(j));
-    let made = combined(alloc, &weights, row, pivot)?;
-    Ok(made)
+    let weights = reducing_weights(pivot.entry(j), row.entry(j));
+    row.combined(alloc, &weights, pivot)
 }
 
 /// A lower and an upper bound, added so that the column vanishes.
@@ -83,183 +80,139 @@ fn pair(
     j: usize,
     lower: &Combination,
     upper: &Combination,
-) -> Result<Combination, AllocError>
-    requires { AreWorking lower.now upper.now }
+) -> Result<Sum, AllocError>
     ensures { IfOk result (λ made. made ≡ paired j lower.now upper.now) }
 {
-    let weights = pairing(lower.entry(j), upper.entry(j));
-    let made = combined(alloc, &weights, lower, upper)?;
+    let weights = pairing_weights(lower.entry(j), upper.entry(j));
+    lower.combined(alloc, &weights, upper)
+}
+
+/// The rows join without the column, by an equality that has it, in order.
+fn join_reduced(
+    rows: &mut JoinedRows,
+    j: usize,
+    pivot: &Combination,
+    others: Vec<Combination>,
+) -> Result<(), EarlyEnd>
+    ensures { Joins rows.old (map (reduced j pivot.now) others.items) rows.new result }
+{
+    for row in others {
+        let made = reduce(rows.alloc, j, pivot, row)?;
+        rows.join(made)?;
+    }
+    Ok(())
+}
+
+/// Rows by what they say of a variable: nothing, or a bound from below, or a bound from above.
+#[derive(Drop)]
+struct Split {
+    without: Vec<Combination>,
+    lower: Vec<Combination>,
+    upper: Vec<Combination>,
+}
+
+impl Split {
+    /// One more row goes to the end of its list.
+    fn add(&mut self, j: usize, row: Combination) -> Result<(), AllocError>
+        ensures without { OnOk result (self.new.without.items
+            ≡ self.old.without.items ++ without j (row ∷ [])) }
+        ensures lower { OnOk result (self.new.lower.items
+            ≡ self.old.lower.items ++ lower_bounds j (row ∷ [])) }
+        ensures upper { OnOk result (self.new.upper.items
+            ≡ self.old.upper.items ++ upper_bounds j (row ∷ [])) }
+    {
+        if is_zero(row.entry(j)) {
+            self.without.push(row)?;
+        } else if is_positive(row.entry(j)) {
+            self.lower.push(row)?;
+        } else {
+            self.upper.push(row)?;
+        }
+        Ok(())
+    }
+}
+
+/// The rows of each kind, in order.
+fn split_rows(alloc: Global, j: usize, rows: Vec<Combination>) -> Result<Split, AllocError>
+    ensures without { IfOk result (λ made. made.without.items ≡ without j rows.items) }
+    ensures lower { IfOk result (λ made. made.lower.items ≡ lower_bounds j rows.items) }
+    ensures upper { IfOk result (λ made. made.upper.items ≡ upper_bounds j rows.items) }
+{
+    let mut made = Split {
+        without: Vec::new(alloc),
+        lower: Vec::new(alloc),
+        upper: Vec::new(alloc),
+    };
+    for row in rows {
+        made.add(j, row)?;
+    }
     Ok(made)
 }
 
-fn join_copy(
-    alloc: Global,
-    cap: u32,
-    row: &Combination,
-    rows: &mut Items<Combination>,
-) -> Result<(), Stop>
-    requires { IsNarrowCombination row.now }
-    ensures { IsOutcome (joined cap rows.old row.now) result rows.new }
+/// The rows join as they are, in order.
+fn join_each(rows: &mut JoinedRows, others: Vec<Combination>) -> Result<(), EarlyEnd>
+    ensures { Joins rows.old others.items rows.new result }
 {
-    let same = row.copy(alloc)?;
-    join(alloc, cap, rows, same)
-}
-
-fn join_pair(
-    alloc: Global,
-    cap: u32,
-    j: usize,
-    lower: &Combination,
-    upper: &Combination,
-    rows: &mut Items<Combination>,
-) -> Result<(), Stop>
-    requires { AreWorking lower.now upper.now }
-    ensures { IsOutcome (joined cap rows.old (paired j lower.now upper.now)) result rows.new }
-{
-    let made = pair(alloc, j, lower, upper)?;
-    join(alloc, cap, rows, made)
-}
-
-fn join_reduced(
-    alloc: Global,
-    cap: u32,
-    j: usize,
-    pivot: &Combination,
-    row: &Combination,
-    rows: &mut Items<Combination>,
-) -> Result<(), Stop>
-    requires { AreWorking pivot.now row.now }
-    ensures { IsOutcome (joined cap rows.old (reduced j pivot.now row.now)) result rows.new }
-{
-    let made = reduce(alloc, j, pivot, row)?;
-    join(alloc, cap, rows, made)
-}
-
-/// The rows without the column join, in order.
-fn join_flats(
-    alloc: Global,
-    cap: u32,
-    j: usize,
-    old: &[Combination],
-    rows: &mut Items<Combination>,
-) -> Result<(), Stop>
-    requires { All IsNarrowCombination old.now }
-    ensures { IsOutcome (joined_each cap (Ok rows.old) (without j old.now)) result rows.new }
-{
-    for row in old {
-        if is_zero(row.entry(j)) {
-            join_copy(alloc, cap, row, rows)?;
-        }
+    for row in others {
+        rows.join(row.into_sum())?;
     }
     Ok(())
 }
 
 /// The pairs of a lower bound with each upper bound join, in order.
 fn join_pairs_of(
-    alloc: Global,
-    cap: u32,
+    rows: &mut JoinedRows,
     j: usize,
     lower: &Combination,
-    old: &[Combination],
-    rows: &mut Items<Combination>,
-) -> Result<(), Stop>
-    requires { All (AreWorking lower.now) old.now }
-    ensures { IsOutcome (joined_each cap (Ok rows.old) (map (paired j lower.now) (upper_bounds j old.now))) result rows.new }
+    uppers: &[Combination],
+) -> Result<(), EarlyEnd>
+    ensures { Joins rows.old (map (paired j lower.now) uppers.now) rows.new result }
 {
-    for upper in old {
-        if is_negative(upper.entry(j)) {
-            join_pair(alloc, cap, j, lower, upper, rows)?;
-        }
+    for upper in uppers {
+        let made = pair(rows.alloc, j, lower, upper)?;
+        rows.join(made)?;
     }
     Ok(())
 }
 
 /// The pairs of each lower bound with each upper bound join, in order.
 fn join_pairs(
-    alloc: Global,
-    cap: u32,
+    rows: &mut JoinedRows,
     j: usize,
-    old: &[Combination],
-    rows: &mut Items<Combination>,
-) -> Result<(), Stop>
-    requires { All (λ lower. All (AreWorking lower) old.now) old.now }
-    ensures { IsOutcome (joined_each cap (Ok rows.old) (pairs j (lower_bounds j old.now) (upper_bounds j old.now))) result rows.new }
+    lowers: &[Combination],
+    uppers: &[Combination],
+) -> Result<(), EarlyEnd>
+    ensures { Joins rows.old (pairs j lowers.now uppers.now) rows.new result }
 {
-    for lower in old {
-        if is_positive(lower.entry(j)) {
-            join_pairs_of(alloc, cap, j, lower, old, rows)?;
-        }
+    for lower in lowers {
+        join_pairs_of(rows, j, lower, uppers)?;
     }
     Ok(())
-}
-
-/// The rows join without the column, by an equality that has it, in order.
-fn join_each_reduced(
-    alloc: Global,
-    cap: u32,
-    j: usize,
-    pivot: &Combination,
-    some: &[Combination],
-    rows: &mut Items<Combination>,
-) -> Result<(), Stop>
-    requires { All (AreWorking pivot.now) some.now }
-    ensures { IsOutcome (joined_each cap (Ok rows.old) (map (reduced j pivot.now) some.now)) result rows.new }
-{
-    for row in some {
-        join_reduced(alloc, cap, j, pivot, row, rows)?;
-    }
-    Ok(())
-}
-
-/// The rows before the pivot and those behind it join without the column.
-fn by_pivot(
-    alloc: Global,
-    cap: u32,
-    j: usize,
-    pivot: &Combination,
-    before: &[Combination],
-    behind: &[Combination],
-    rows: &mut Items<Combination>,
-) -> Result<(), Stop>
-    requires before { All (AreWorking pivot.now) before.now }
-    requires behind { All (AreWorking pivot.now) behind.now }
-    ensures { IsOutcome (joined_each cap (Ok rows.old) (map (reduced j pivot.now) (before.now ++ behind.now))) result rows.new }
-{
-    join_each_reduced(alloc, cap, j, pivot, before, rows)?;
-    join_each_reduced(alloc, cap, j, pivot, behind, rows)
 }
 
 /// The rows without the column join, and then the pairs of a lower and an upper bound.
-fn by_pairs(
-    alloc: Global,
-    cap: u32,
-    j: usize,
-    old: &[Combination],
-    rows: &mut Items<Combination>,
-) -> Result<(), Stop>
-    requires { AreUniform old.now }
-    ensures { IsOutcome (joined_each cap (Ok rows.old) (without j old.now ++ pairs j (lower_bounds j old.now) (upper_bounds j old.now))) result rows.new }
+fn join_by_pairs(rows: &mut JoinedRows, j: usize, old: Vec<Combination>) -> Result<(), EarlyEnd>
+    ensures { Joins rows.old (without j old.items
+        ++ pairs j (lower_bounds j old.items) (upper_bounds j old.items)) rows.new result }
 {
-    join_flats(alloc, cap, j, old, rows)?;
-    join_pairs(alloc, cap, j, old, rows)
+    let split = split_rows(rows.alloc, j, old)?;
+    join_each(rows, split.without)?;
+    join_pairs(rows, j, split.lower.as_slice(), split.upper.as_slice())
 }
 
 /// The rows that are left of the old ones without column j join a list.
 pub fn eliminate_column(
-    alloc: Global,
-    cap: u32,
+    rows: &mut JoinedRows,
     j: usize,
-    old: &[Combination],
-    rows: &mut Items<Combination>,
-) -> Result<(), Stop>
-    requires { AreUniform old.now }
-    ensures { IsOutcome (joined_each cap (Ok rows.old) (projected j old.now)) result rows.new }
+    mut old: Vec<Combination>,
+) -> Result<(), EarlyEnd>
+    ensures { Joins rows.old (projected j old.items) rows.new result }
 {
-    match pivot_place(old, j) {
+    match pivot_place(old.as_slice(), j) {
         Some(at) => {
-            let (before, behind) = (&old[..at], &old[at + 1..]);
-            by_pivot(alloc, cap, j, &old[at], before, behind, rows)
+            let pivot = old.remove(at);
+            join_reduced(rows, j, &pivot, old)
         }
-        None => by_pairs(alloc, cap, j, old, rows),
+        None => join_by_pairs(rows, j, old),
     }
 }

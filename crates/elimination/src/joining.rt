@@ -1,80 +1,108 @@
-//! Rows that join a list, one after the other.
-ghost use Rattle.std.specs.Prelude.{◌≡◌, List, position, OnOk};
-ghost use Rattle.elimination.specs.Combination.{Combination};
-ghost use Rattle.elimination.specs.Joining.{judged, is_parallel, placed, added, counted, joined};
-ghost use Rattle.elimination.specs.Working.{IsNarrowCombination, IsSmallCombination};
-ghost use Rattle.elimination.specs.Outcome.{IsOutcome};
+//! A list of rows that others join, one after the other.
+//!
+//! A row joins over the greatest common divisor of its numbers. A row without variables is left
+//! out, or is a contradiction. Of parallel inequalities the one that says more stays, in the place
+//! of the first. What is too wide, or too many, ends the elimination.
+ghost use Rattle.std.specs.Prelude.{◌≡◌, [], ◌∷◌, List, position, OnOk};
+ghost use Rattle.elimination.specs.Joining.{is_parallel, placed, added, counted, kept};
+ghost use Rattle.elimination.specs.Outcome.{Leaves, Joins};
 
-use crate::answer::{Limit, Stop};
-use crate::combination::{Combination, primitive};
-use sqlite_items::Items;
+use crate::answer::{EarlyEnd, Limit};
+use crate::combination::{Combination, Sum};
 use std::alloc::{AllocError, Global};
 
-/// A row without variables is left out where it holds, and stops the elimination otherwise.
-fn judge(alloc: Global, row: &Combination) -> Result<(), Stop>
-    requires { IsNarrowCombination row.now }
-    ensures { (rows : List Combination) → IsOutcome (judged rows row.now) result rows }
-{
-    if row.allows() {
-        return Ok(());
-    }
-    let multipliers = row.turned(alloc)?;
-    Err(Stop::Contradiction(multipliers))
+/// A list of rows that others join. It has at most `cap` rows.
+#[derive(Drop)]
+pub struct JoinedRows {
+    pub alloc: Global,
+    pub cap: u32,
+    pub rows: Vec<Combination>,
 }
 
-/// The place of the first inequality with the row's coefficients.
-fn parallel(rows: &[Combination], row: &Combination) -> Option<usize>
-    ensures { result ≡ position (λ earlier. is_parallel earlier row.now) rows.now }
-{
-    rows.iter().position(|earlier| earlier.is_parallel(row))
-}
-
-/// An inequality goes to the end, or takes or leaves the place of the first parallel one.
-fn place(rows: &mut Items<Combination>, row: Combination) -> Result<(), AllocError>
-    ensures { OnOk result (rows.new ≡ placed rows.old row) }
-{
-    match parallel(rows.as_slice(), &row) {
-        None => rows.push(row)?,
-        Some(at) => {
-            if row.is_tighter(&rows.as_slice()[at]) {
-                rows.set(at, row);
-            }
+impl JoinedRows {
+    /// No rows yet.
+    pub fn new(alloc: Global, cap: u32) -> JoinedRows
+        ensures rows { result.rows.items ≡ [] }
+        ensures cap { result.cap ≡ cap }
+    {
+        JoinedRows {
+            alloc,
+            cap,
+            rows: Vec::new(alloc),
         }
     }
-    Ok(())
-}
 
-/// A row with variables joins the list, unless that grows longer than the cap.
-fn add(cap: u32, rows: &mut Items<Combination>, row: Combination) -> Result<(), Stop>
-    ensures { IsOutcome (counted cap (added rows.old row)) result rows.new }
-{
-    if row.is_equality() {
-        rows.push(row)?;
-    } else {
-        place(rows, row)?;
+    /// The rows that have joined.
+    pub fn into_rows(self) -> Vec<Combination>
+        ensures { result.items ≡ self.rows.items }
+    {
+        self.rows
     }
-    if rows.len() > cap as usize {
-        return Err(Stop::AtLimit(Limit::ManyRows));
-    }
-    Ok(())
-}
 
-/// A row joins the list, or stops the elimination.
-pub fn join(
-    alloc: Global,
-    cap: u32,
-    rows: &mut Items<Combination>,
-    row: Combination,
-) -> Result<(), Stop>
-    requires { IsSmallCombination row }
-    ensures { IsOutcome (joined cap rows.old row) result rows.new }
-{
-    let row = primitive(alloc, row)?;
-    if !row.is_narrow() {
-        return Err(Stop::AtLimit(Limit::WideRow));
+    /// The place of the first inequality with the row's coefficients.
+    fn parallel(&self, row: &Combination) -> Option<usize>
+        ensures { result ≡ position (λ earlier. is_parallel earlier row.now) self.now.rows.items }
+    {
+        self.rows
+            .iter()
+            .position(|earlier| earlier.is_parallel(row))
     }
-    if row.has_no_variable() {
-        return judge(alloc, &row);
+
+    /// An inequality goes to the end, or takes or leaves the place of the first parallel one.
+    fn place(&mut self, row: Combination) -> Result<(), AllocError>
+        ensures rows { OnOk result (self.new.rows.items ≡ placed self.old.rows.items row) }
+        ensures cap { OnOk result (self.new.cap ≡ self.old.cap) }
+    {
+        match self.parallel(&row) {
+            None => self.rows.push(row)?,
+            Some(at) => {
+                if row.is_tighter(&self.rows[at]) {
+                    self.rows[at] = row;
+                }
+            }
+        }
+        Ok(())
     }
-    add(cap, rows, row)
+
+    /// A row with variables goes to its place, unless the list grows longer than the cap.
+    fn add(&mut self, row: Combination) -> Result<(), EarlyEnd>
+        ensures { Leaves self.old (counted self.old.cap (added self.old.rows.items row))
+            self.new result }
+    {
+        if row.is_equality() {
+            self.rows.push(row).map_err(AllocError::from)?;
+        } else {
+            self.place(row)?;
+        }
+        if self.rows.len() > self.cap as usize {
+            return Err(EarlyEnd::AtLimit(Limit::ManyRows));
+        }
+        Ok(())
+    }
+
+    /// A row without variables is left out where it holds, and is a contradiction otherwise.
+    fn keep(&mut self, row: Combination) -> Result<(), EarlyEnd>
+        ensures { Leaves self.old (kept self.old.cap self.old.rows.items row) self.new result }
+    {
+        if !row.has_no_variable() {
+            return self.add(row);
+        }
+        if row.allows() {
+            return Ok(());
+        }
+        let multipliers = row.refuting_multipliers(self.alloc)?;
+        Err(EarlyEnd::Contradiction(multipliers))
+    }
+
+    /// A row joins the list, over the greatest common divisor of its numbers, or ends the
+    /// elimination.
+    pub fn join(&mut self, row: Sum) -> Result<(), EarlyEnd>
+        ensures { Joins self.old (row ∷ []) self.new result }
+    {
+        let row = row.primitive(self.alloc)?;
+        match row.row() {
+            None => Err(EarlyEnd::AtLimit(Limit::WideRow)),
+            Some(row) => self.keep(row),
+        }
+    }
 }

@@ -1,7 +1,14 @@
 //! Laws of the definitions alone. Each is the contract of a call that does nothing.
-ghost use Rattle.elimination.specs.Laws.{LawOfLimits, LawOfPoints, LawOfRefutability, LawOfRefutations};
+ghost use Rattle.elimination.specs.Laws.{LawOfLimits, LawOfMultipliers, LawOfPoints, LawOfRefutability, LawOfRefutations};
 
-/// The multipliers that an elimination answers refute the given rows, and they are below 2^56 in size.
+/// In each list that an elimination makes, each row is the sum of the given rows, each times its
+/// multiplier. At inequalities multipliers are not negative, and 0 where the row is an equality.
+pub fn law_of_multipliers()
+    ensures { LawOfMultipliers }
+{}
+
+/// The multipliers that an elimination answers refute the given rows, and they are below 2^56 in
+/// size.
 pub fn law_of_refutations()
     ensures { LawOfRefutations }
 {}
@@ -11,7 +18,8 @@ pub fn law_of_points()
     ensures { LawOfPoints }
 {}
 
-/// Where an elimination meets no limit, it answers multipliers exactly where some refute the rows. They may be of any size.
+/// Where an elimination meets no limit, it answers multipliers exactly where some refute the rows.
+/// They may be of any size.
 pub fn law_of_refutability()
     ensures { LawOfRefutability }
 {}

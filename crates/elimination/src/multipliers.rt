@@ -4,11 +4,11 @@
 ghost use Rattle.std.specs.Prelude.{◌≡◌, ℕ, ℤ, List, [], ◌<◌, ◌^◌, ◌-◌, ◌↔◌, ◌<ℤ◌, ◌+ℤ◌, ◌*ℤ◌, pos, map, IsTrue, unsigned_abs, All, IfOk, OnOk, length, replicate, ◌∷◌, ◌++◌};
 ghost use Rattle.std.specs.Int.{int_div_euclid};
 ghost use Rattle.lin_terms.specs.Divisor.{gcd_of, gcd_with};
-ghost use Rattle.lin_terms.specs.Row.{IsNarrow};
+ghost use Rattle.lin_terms.specs.Bounds.{FitsRow};
 ghost use Rattle.lin_terms.specs.Vectors.{plus, scaled};
 ghost use Rattle.elimination.specs.Sparse.{at, first_row, front_of, behind_row, IsRising, IsAdded, quotient_of, quotients_of, table};
 
-use lin_terms::gcd;
+use lin_terms::{WIDE_ROW, gcd};
 use sqlite_items::Items;
 use std::alloc::{AllocError, Global};
 use std::marker::Model;
@@ -42,23 +42,26 @@ impl Model for Multipliers {
     ghost invariant = { λ m. IsRising 0 m.count m.entries };
 }
 
-/// How often each of two rows is taken in their sum.
+/// How often each of two rows is taken in their sum. Both numbers are below 2^56 in size.
 #[derive(Debug, Drop)]
 pub struct Weights {
     pub first: i128,
     pub second: i128,
+    ghost first_fits: { FitsRow first },
+    ghost second_fits: { FitsRow second },
 }
 
-/// The product of two narrow numbers.
+/// The product of two numbers below 2^56 in size.
 pub fn product(x: &i128, y: &i128) -> i128
-    requires x_narrow { IsNarrow x.now }
-    requires y_narrow { IsNarrow y.now }
+    requires x_fits { FitsRow x.now }
+    requires y_fits { FitsRow y.now }
     ensures value { result ≡ x.now *ℤ y.now }
     ensures small { unsigned_abs result < 2 ^ 112 }
 {
     *x * *y
 }
 
+/// The number of the first row, and `count` where there is none.
 fn first_row(entries: &[Multiplier], count: u32) -> u32
     ensures { result ≡ first_row count entries.now }
 {
@@ -70,8 +73,8 @@ fn first_row(entries: &[Multiplier], count: u32) -> u32
 
 /// A number times the multiplier of the row, where that stands in front.
 fn front_product(times: &i128, entries: &[Multiplier], row: u32) -> i128
-    requires times_narrow { IsNarrow times.now }
-    requires narrow { All (λ entry. IsNarrow entry.value) entries.now }
+    requires times_fits { FitsRow times.now }
+    requires fits { All (λ entry. FitsRow entry.value) entries.now }
     ensures value { result ≡ times.now *ℤ front_of row entries.now }
     ensures small { unsigned_abs result < 2 ^ 112 }
 {
@@ -81,6 +84,7 @@ fn front_product(times: &i128, entries: &[Multiplier], row: u32) -> i128
     }
 }
 
+/// The list behind the multiplier of the row, where that stands in front.
 fn behind_row(entries: &[Multiplier], row: u32) -> &[Multiplier]
     ensures { result.now ≡ behind_row row entries.now }
 {
@@ -90,13 +94,13 @@ fn behind_row(entries: &[Multiplier], row: u32) -> &[Multiplier]
     }
 }
 
-/// What the sum of two lists, each taken so often as its weight says, has for a row that stands in front or in neither.
+/// What the sum of two lists, each taken so often as its weight says, has for a row that stands in
+/// front or in neither.
 fn front_sum(weights: &Weights, ps: &[Multiplier], qs: &[Multiplier], row: u32) -> i128
-    requires first_narrow { IsNarrow weights.now.first }
-    requires second_narrow { IsNarrow weights.now.second }
-    requires ps_narrow { All (λ entry. IsNarrow entry.value) ps.now }
-    requires qs_narrow { All (λ entry. IsNarrow entry.value) qs.now }
-    ensures { result ≡ (weights.now.first *ℤ front_of row ps.now) +ℤ (weights.now.second *ℤ front_of row qs.now) }
+    requires ps_fits { All (λ entry. FitsRow entry.value) ps.now }
+    requires qs_fits { All (λ entry. FitsRow entry.value) qs.now }
+    ensures { result ≡ (weights.now.first *ℤ front_of row ps.now)
+        +ℤ (weights.now.second *ℤ front_of row qs.now) }
 {
     front_product(&weights.first, ps, row) + front_product(&weights.second, qs, row)
 }
@@ -119,10 +123,8 @@ fn sum_of_entries(
     ps: &[Multiplier],
     qs: &[Multiplier],
 ) -> Result<Vec<Multiplier>, AllocError>
-    requires first_narrow { IsNarrow weights.now.first }
-    requires second_narrow { IsNarrow weights.now.second }
-    requires ps_narrow { All (λ entry. IsNarrow entry.value) ps.now }
-    requires qs_narrow { All (λ entry. IsNarrow entry.value) qs.now }
+    requires ps_fits { All (λ entry. FitsRow entry.value) ps.now }
+    requires qs_fits { All (λ entry. FitsRow entry.value) qs.now }
     requires ps_rising { IsRising 0 count ps.now }
     requires qs_rising { IsRising 0 count qs.now }
     ensures rising { IfOk result (λ made. IsRising 0 count made.items) }
@@ -141,14 +143,16 @@ fn sum_of_entries(
     Ok(made)
 }
 
-fn are_narrow_entries(entries: &[Multiplier]) -> bool
-    ensures { IsTrue result ↔ All (λ entry. IsNarrow entry.value) entries.now }
+/// Whether each multiplier is below 2^56 in size.
+fn entries_fit(entries: &[Multiplier]) -> bool
+    ensures { IsTrue result ↔ All (λ entry. FitsRow entry.value) entries.now }
 {
     entries
         .iter()
-        .all(|entry| entry.value.unsigned_abs() < 1 << 56)
+        .all(|entry| entry.value.unsigned_abs() < WIDE_ROW)
 }
 
+/// A multiplier over a divisor, rounded down.
 fn quotient(entry: &Multiplier, divisor: &i128) -> Multiplier
     requires { pos 0 <ℤ divisor.now }
     ensures { result ≡ quotient_of divisor.now entry.now }
@@ -159,6 +163,7 @@ fn quotient(entry: &Multiplier, divisor: &i128) -> Multiplier
     }
 }
 
+/// All multipliers over a divisor, rounded down.
 fn quotients(
     alloc: Global,
     entries: &[Multiplier],
@@ -174,6 +179,7 @@ fn quotients(
     Ok(made)
 }
 
+/// A greatest common divisor, carried on through the multipliers.
 fn gcd_of_entries(start: u128, entries: &[Multiplier]) -> u128
     ensures { result ≡ gcd_with start (map (λ entry. entry.value) entries.now) }
 {
@@ -191,8 +197,8 @@ fn scaled_list(
     count: u32,
     entries: &[Multiplier],
 ) -> Result<Vec<i128>, AllocError>
-    requires times_narrow { IsNarrow times.now }
-    requires narrow { All (λ entry. IsNarrow entry.value) entries.now }
+    requires times_fits { FitsRow times.now }
+    requires fits { All (λ entry. FitsRow entry.value) entries.now }
     requires rising { IsRising 0 count entries.now }
     ensures { IfOk result (λ made. made.items ≡ scaled times.now (table 0 count entries.now)) }
 {
@@ -212,9 +218,10 @@ fn push_product(
     left: &[Multiplier],
     row: u32,
 ) -> Result<(), AllocError>
-    requires times_narrow { IsNarrow times.now }
-    requires narrow { All (λ entry. IsNarrow entry.value) left.now }
-    ensures { OnOk result (made.new.items ≡ made.old.items ++ (times.now *ℤ front_of row left.now) ∷ []) }
+    requires times_fits { FitsRow times.now }
+    requires fits { All (λ entry. FitsRow entry.value) left.now }
+    ensures { OnOk result (made.new.items
+        ≡ made.old.items ++ (times.now *ℤ front_of row left.now) ∷ []) }
 {
     made.push(front_product(times, left, row))?;
     Ok(())
@@ -224,7 +231,8 @@ impl Multipliers {
     /// The multiplier 1 for a row, and 0 for the `count - 1` others.
     pub fn unit(alloc: Global, row: u32, count: u32) -> Result<Multipliers, AllocError>
         requires { row < count }
-        ensures { IfOk result (λ made. made ≡ replicate row (pos 0) ++ pos 1 ∷ replicate (count - row - 1) (pos 0)) }
+        ensures { IfOk result (λ made. made
+            ≡ replicate row (pos 0) ++ pos 1 ∷ replicate (count - row - 1) (pos 0)) }
     {
         let mut entries = Items::new(alloc);
         entries.push(Multiplier { row, value: 1 })?;
@@ -238,14 +246,12 @@ impl Multipliers {
         first: &Multipliers,
         second: &Multipliers,
     ) -> Result<Multipliers, AllocError>
-        requires lengths { length first.now ≡ length second.now }
-        requires first_weight_narrow { IsNarrow weights.now.first }
-        requires second_weight_narrow { IsNarrow weights.now.second }
-        requires first_narrow { All IsNarrow first.now }
-        requires second_narrow { All IsNarrow second.now }
-        ensures { IfOk result (λ made. made ≡ plus (scaled weights.now.first first.now) (scaled weights.now.second second.now)) }
+        requires first_fits { All FitsRow first.now }
+        requires second_fits { All FitsRow second.now }
+        ensures { IfOk result (λ made. made
+            ≡ plus (scaled weights.now.first first.now) (scaled weights.now.second second.now)) }
     {
-        let count = first.count;
+        let count = first.count.max(second.count);
         let entries = sum_of_entries(
             alloc,
             count,
@@ -260,10 +266,10 @@ impl Multipliers {
     }
 
     /// Whether each is below 2^56 in size.
-    pub fn are_narrow(&self) -> bool
-        ensures { IsTrue result ↔ All IsNarrow self.now }
+    pub fn fit(&self) -> bool
+        ensures { IsTrue result ↔ All FitsRow self.now }
     {
-        are_narrow_entries(self.entries.as_slice())
+        entries_fit(self.entries.as_slice())
     }
 
     /// All of them, over a divisor, rounded down.
@@ -280,29 +286,19 @@ impl Multipliers {
 
     /// A greatest common divisor of some numbers, carried on through the multipliers.
     pub fn gcd_with(&self, start: u128) -> u128
-        ensures { (numbers : List ℤ) → start ≡ gcd_of numbers → result ≡ gcd_of (numbers ++ self.now) }
+        ensures { (numbers : List ℤ) → start ≡ gcd_of numbers
+            → result ≡ gcd_of (numbers ++ self.now) }
     {
         gcd_of_entries(start, self.entries.as_slice())
     }
 
     /// All of them, each times a number.
     pub fn list(&self, alloc: Global, times: &i128) -> Result<Items<i128>, AllocError>
-        requires times_narrow { IsNarrow times.now }
-        requires narrow { All IsNarrow self.now }
+        requires times_fits { FitsRow times.now }
+        requires fits { All FitsRow self.now }
         ensures { IfOk result (λ made. made ≡ scaled times.now self.now) }
     {
         let made = scaled_list(alloc, times, self.count, self.entries.as_slice())?;
         Ok(Items::from_vec(made))
-    }
-
-    /// The same multipliers once more.
-    pub fn copy(&self, alloc: Global) -> Result<Multipliers, AllocError>
-        ensures { IfOk result (λ made. made ≡ self.now) }
-    {
-        let entries = Items::from_slice(alloc, self.entries.as_slice())?;
-        Ok(Multipliers {
-            count: self.count,
-            entries,
-        })
     }
 }

@@ -1,6 +1,6 @@
 //! Rows that were worked out by hand.
 use crate::{Answer, Limit, decide};
-use lin_terms::{Row, are_narrow_rows, have_one_length};
+use lin_terms::{Row, are_fitting_rows, have_one_length};
 use std::alloc::{AllocError, Global};
 use std::process::Abort;
 use std::test::Fail;
@@ -140,7 +140,7 @@ fn is_wanted(answer: &Result<Answer, Limit>, want: &Want) -> bool {
 
 /// What `decide` answers, where it may be asked.
 fn answer(rt: &impl Abort, alloc: Global, rows: &[Row], cap: u32) -> Result<Answer, Limit> {
-    assert!(rt; have_one_length(rows) && are_narrow_rows(rows));
+    assert!(rt; have_one_length(rows) && are_fitting_rows(rows));
     decide(alloc, rows, cap)
 }
 

@@ -1,6 +1,6 @@
 //! Rows that were worked out by hand.
 use crate::{Answer, Limit, prove};
-use lin_terms::{Row, are_narrow_rows, have_one_length};
+use lin_terms::{Row, are_fitting_rows, have_one_length};
 use std::test::Fail;
 
 /// What is answered: multipliers, or that there are none, or a limit.
@@ -34,7 +34,7 @@ fn rows_are_proved(rt: HostRuntime) -> Result<(), Fail> {
             made.push(Row::new(alloc, &[*coef], *constant, false)?)?;
         }
         let rows = made.as_slice();
-        assert!(rt; have_one_length(rows) && are_narrow_rows(rows));
+        assert!(rt; have_one_length(rows) && are_fitting_rows(rows));
         let got = prove(alloc, rows, cap);
         assert!(rt;
             is_wanted(&got, &want),

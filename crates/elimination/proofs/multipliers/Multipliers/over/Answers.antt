@@ -9,7 +9,8 @@ use Rattle.elimination.proofs.multipliers.Multipliers.over.Goals as goal
 pub invariant_of-result : goal.invariant_of-result
 invariant_of-result c =
     let made = c.from_vec.ensures ∙ c.in_ok-entries.ensures ∙ ap (λ (entries : List Multiplier). quotients_of c.args.divisor.now entries) c.as_slice.ensures in
-    subst (IsRising 0 c.self.inside.count) (sym made) (rising-quotients c.args.divisor.now c.requires 0 c.self.inside.count c.self.inside.entries c.self.invariant)
+    subst (IsRising 0 c.self.inside.count) (sym made) (rising-quotients c.args.divisor.now c.requires 0 c.self.inside.count c.self.inside.entries
+    c.self.invariant)
 
 pub returns : goal.returns
 returns c =
