@@ -5,7 +5,6 @@ use Rattle.c_ast.specs.declared.place.Place.{Place}
 use Rattle.c_ast.specs.declared.place.Place.TheVariants as place
 use Rattle.c_ast.specs.Tree.{Program}
 use Rattle.c_ast.specs.Segment.{GoesOnFrom}
-use Rattle.c_ast.specs.Interpreted.{IsEvent}
 use Rattle.c_ast.specs.Step.{Work, scope_of, Scope, is_in, first_variables, with_value, values_from, values_in, spread_from, spread}
 use Rattle.c_ast.specs.Scope.{with_variable, variables_from, variables_in, AreInScope}
 use Rattle.c_ast.proofs.InScope.{is_in-first_variables}
@@ -18,11 +17,11 @@ get_or_past (x ∷ xs) zero over = absurd (omega arith)
 get_or_past (x ∷ xs) (suc k) over = get_or_past xs k (omega arith)
 
 spread_from-input : (inputs : List ℤ) (x m : ℕ)
-    → spread_from (first_variables (length inputs)) x (suc m) (drop x inputs) ≡ get_or inputs x (pos 0) ∷ spread_from (first_variables (length inputs)) (suc x) m (drop (suc x) inputs)
+    → spread_from (pos 0) (first_variables (length inputs)) x (suc m) (drop x inputs) ≡ get_or inputs x (pos 0) ∷ spread_from (pos 0) (first_variables (length inputs)) (suc x) m (drop (suc x) inputs)
 spread_from-input inputs x m = on (nat_lt x (length inputs)) refl
   where
     on : (t : Bool) → nat_lt x (length inputs) ≡ t
-        → spread_from (first_variables (length inputs)) x (suc m) (drop x inputs) ≡ get_or inputs x (pos 0) ∷ spread_from (first_variables (length inputs)) (suc x) m (drop (suc x) inputs)
+        → spread_from (pos 0) (first_variables (length inputs)) x (suc m) (drop x inputs) ≡ get_or inputs x (pos 0) ∷ spread_from (pos 0) (first_variables (length inputs)) (suc x) m (drop (suc x) inputs)
     on true is =
         let below : x < length inputs = grind (arith, nat_tests) in
         rw (is_in-first_variables (length inputs) x, is, drop-cons inputs x (pos 0) below)
@@ -33,23 +32,23 @@ spread_from-input inputs x m = on (nat_lt x (length inputs)) refl
 
 -- what is listed so far, with what is still to come
 pub record ListsInputs (inputs : List ℤ) (n x : ℕ) (values : List ℤ) : Type 0 where
-  pub is : values ++ spread_from (first_variables (length inputs)) x (n - x) (drop x inputs) ≡ spread (first_variables (length inputs)) n inputs
+  pub is : values ++ spread_from (pos 0) (first_variables (length inputs)) x (n - x) (drop x inputs) ≡ spread (first_variables (length inputs)) n inputs
 
 pub inputs_none : (inputs : List ℤ) (n : ℕ) → ListsInputs inputs n 0 []
-inputs_none inputs n = record { is = (let e : n - 0 ≡ n = omega arith in ap (λ (m : ℕ). spread_from (first_variables (length inputs)) 0 m inputs) e) }
+inputs_none inputs n = record { is = (let e : n - 0 ≡ n = omega arith in ap (λ (m : ℕ). spread_from (pos 0) (first_variables (length inputs)) 0 m inputs) e) }
 
 pub inputs_one : (inputs : List ℤ) (n x next : ℕ) (values : List ℤ) (value : ℤ) → next ≡ suc x → x < n → value ≡ get_or inputs x (pos 0) → ListsInputs inputs n x values → ListsInputs inputs n next (values ++ value ∷ [])
 inputs_one inputs n x next values value next_is below value_is lists =
     let e : n - x ≡ suc (n - suc x) = omega arith in
     record {
-      is = rw (next_is, value_is) (append_assoc values (get_or inputs x (pos 0) ∷ []) (spread_from (first_variables (length inputs)) (suc x) (n - suc x) (drop (suc x) inputs))
-          ∙ ap (λ (z : List ℤ). values ++ z) (sym (ap (λ (m : ℕ). spread_from (first_variables (length inputs)) x m (drop x inputs)) e ∙ spread_from-input inputs x (n - suc x))) ∙ lists.is);
+      is = rw (next_is, value_is) (append_assoc values (get_or inputs x (pos 0) ∷ []) (spread_from (pos 0) (first_variables (length inputs)) (suc x) (n - suc x) (drop (suc x) inputs))
+          ∙ ap (λ (z : List ℤ). values ++ z) (sym (ap (λ (m : ℕ). spread_from (pos 0) (first_variables (length inputs)) x m (drop x inputs)) e ∙ spread_from-input inputs x (n - suc x))) ∙ lists.is);
     }
 
 pub inputs_all : (inputs : List ℤ) (n x : ℕ) (values : List ℤ) → n ≤ x → ListsInputs inputs n x values → values ≡ spread (first_variables (length inputs)) n inputs
 inputs_all inputs n x values over lists =
     let e : n - x ≡ 0 = omega arith in
-    sym (append-nil values) ∙ ap (λ (m : ℕ). values ++ spread_from (first_variables (length inputs)) x m (drop x inputs)) (sym e) ∙ lists.is
+    sym (append-nil values) ∙ ap (λ (m : ℕ). values ++ spread_from (pos 0) (first_variables (length inputs)) x m (drop x inputs)) (sym e) ∙ lists.is
 
 -- ---- the values of the variables in scope
 
@@ -80,22 +79,3 @@ variables_from-below s x (suc n) k d below = both (is_in s x) k below (λ k lt. 
 
 pub variables_in-below : (s : Scope) (n k d : ℕ) → k < length (variables_in s n) → get_or (variables_in s n) k d < n
 variables_in-below s n k d below = omega (arith, variables_from-below s 0 n k d below)
-
--- ---- an event
-
-pub in_scope-below : (f : Program) (p : Place) (variables listed : List ℕ) (work : Work) → GoesOnFrom f p work → AreInScope f p variables → listed ≡ variables
-    → (k : ℕ) → k < length listed → get_or listed k 0 < f.vars
-in_scope-below f p variables listed work from scope same k below =
-    let is : listed ≡ variables_in (scope_of work) f.vars = same ∙ scope work from in
-    let below' : k < length (variables_in (scope_of work) f.vars) = subst (λ (z : List ℕ). k < length z) is below in
-    subst (λ (z : List ℕ). get_or z k 0 < f.vars) (sym is) (variables_in-below (scope_of work) f.vars k 0 below')
-
-pub event_is : (f : Program) (mark : ℕ) (env : List ℤ) (variables listed : List ℕ) (k : ℕ) (values : List ℤ) → length env ≡ f.vars → AreInScope f (place.Mark mark) variables → listed ≡ variables
-    → length listed ≤ k → values ≡ map (λ (y : ℕ). get_or env y (pos 0)) (take k listed) → IsEvent f mark env (record { mark = mark; values = values })
-event_is f mark env variables listed k values len scope same all values_is = record {
-  mark_is = refl;
-  values_are = λ work follows.
-      let is : listed ≡ variables_in (scope_of work) (length env) = same ∙ scope work follows ∙ ap (variables_in (scope_of work)) (sym len) in
-      let whole : take k listed ≡ listed = take_all k listed all in
-      values_is ∙ ap (map (λ (y : ℕ). get_or env y (pos 0))) (whole ∙ is) ∙ values_in-listed (scope_of work) env;
-}

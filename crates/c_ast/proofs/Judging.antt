@@ -3,15 +3,15 @@ use Rattle.std.proofs.lemmas.Bool.Decides.{nat_tests}
 use Rattle.std.proofs.Common.{◌≡◌, ℕ, zero, suc, ◌+◌, ◌<◌, ◌≤◌, ◌⊎◌, inl, inr, Bool, true, false, cond, nat_lt, List, ◌∷◌, length, Option, Some, None, ℤ, refl, sym, ap, ◌∙◌, arith}
 use Rattle.c_ast.specs.declared.trace.Event.{Event}
 use Rattle.c_ast.specs.declared.trace.Trace.{Trace}
-use Rattle.c_ast.specs.declared.interpreter.Outcome.{Outcome}
-use Rattle.c_ast.specs.declared.interpreter.Outcome.TheVariants as outcome
+use Rattle.c_ast.specs.declared.trace.Outcome.{Outcome}
+use Rattle.c_ast.specs.declared.trace.Outcome.TheVariants as outcome
 use Rattle.c_ast.specs.Tree.{Program}
 use Rattle.c_ast.specs.Step as run
 use Rattle.c_ast.specs.Step.{Work, scope_of, values_in, first_variables, start, spread, step, evaluated, seen, seen_next}
 use Rattle.c_ast.specs.Returns.{always}
-use Rattle.c_ast.specs.Shown.{evaluates_narrow}
+use Rattle.c_ast.specs.FitsRun.{evaluates_fitting}
 use Rattle.c_ast.specs.Trace.{IsTrace, with_event, no_event}
-use Rattle.c_ast.specs.Interpreted.{with_first, at_event, returned, interpreted, or_cut_off}
+use Rattle.c_ast.specs.Outcome.{with_first, at_event, returned, interpreted, or_cut_off}
 use Rattle.c_ast.specs.Judged.{at_most, IsJudged}
 use Rattle.c_ast.specs.Laws.{JudgedIsTrace, CutOffPassesMore, TraceIsJudged}
 use Rattle.c_ast.proofs.Runs.{judged_once}
@@ -21,14 +21,14 @@ use Rattle.c_ast.proofs.Outcomes.{behind, outcome_is_trace}
 
 module _ (limit : ℕ) where
   abbrev J : ℕ → ℕ → Work → List ℤ → Option Outcome
-  J = seen evaluates_narrow (Some outcome.Wide) (at_most limit) returned
+  J = seen evaluates_fitting (Some outcome.Wide) (at_most limit) returned
 
   abbrev IsRun : ℕ → Type 0
   IsRun n = (m : ℕ) (w : Work) (env : List ℤ) (trace : Trace) → m ≤ limit → J n m w env ≡ Some (outcome.Returned trace)
       → (interpreted n m w env ≡ Some (outcome.Returned trace)) × (m + length trace.events ≤ limit)
 
-  next_run : (n m : ℕ) (x : run.Next) (trace : Trace) → IsRun n → m ≤ limit → seen_next evaluates_narrow (Some outcome.Wide) (at_most limit) returned (J n) m x ≡ Some (outcome.Returned trace)
-      → (seen_next evaluates_narrow (Some outcome.Wide) at_event returned (interpreted n) m x ≡ Some (outcome.Returned trace)) × (m + length trace.events ≤ limit)
+  next_run : (n m : ℕ) (x : run.Next) (trace : Trace) → IsRun n → m ≤ limit → seen_next evaluates_fitting (Some outcome.Wide) (at_most limit) returned (J n) m x ≡ Some (outcome.Returned trace)
+      → (seen_next evaluates_fitting (Some outcome.Wide) at_event returned (interpreted n) m x ≡ Some (outcome.Returned trace)) × (m + length trace.events ≤ limit)
   next_run n m (run.Goes w env) trace more few is = more m w env trace few is
   next_run n m (run.Passes mark w env) trace more few is = on (nat_lt m limit) refl is
     where
@@ -47,10 +47,10 @@ module _ (limit : ℕ) where
 
   is_run : (n : ℕ) → IsRun n
   is_run zero m w env trace few is = cc
-  is_run (suc n) m w env trace few is = on (evaluates_narrow (evaluated w) env) is (is_run n)
+  is_run (suc n) m w env trace few is = on (evaluates_fitting (evaluated w) env) is (is_run n)
     where
-      on : (t : Bool) → cond t (seen_next evaluates_narrow (Some outcome.Wide) (at_most limit) returned (J n) m (step w env)) (Some outcome.Wide) ≡ Some (outcome.Returned trace) → IsRun n
-          → (cond t (seen_next evaluates_narrow (Some outcome.Wide) at_event returned (interpreted n) m (step w env)) (Some outcome.Wide) ≡ Some (outcome.Returned trace)) × (m + length trace.events ≤ limit)
+      on : (t : Bool) → cond t (seen_next evaluates_fitting (Some outcome.Wide) (at_most limit) returned (J n) m (step w env)) (Some outcome.Wide) ≡ Some (outcome.Returned trace) → IsRun n
+          → (cond t (seen_next evaluates_fitting (Some outcome.Wide) at_event returned (interpreted n) m (step w env)) (Some outcome.Wide) ≡ Some (outcome.Returned trace)) × (m + length trace.events ≤ limit)
       on true is more = next_run n m (step w env) trace more few is
       on false is more = cc
 
@@ -80,7 +80,7 @@ data ComesOf (limit m : ℕ) (trace : Trace) (o : Option Outcome) : Type 0 where
 
 module _ (limit : ℕ) where
   abbrev Seen : ℕ → ℕ → Work → List ℤ → Option Outcome
-  Seen = seen evaluates_narrow (Some outcome.Wide) (at_most limit) returned
+  Seen = seen evaluates_fitting (Some outcome.Wide) (at_most limit) returned
 
   abbrev Traced : ℕ → ℕ → Work → List ℤ → Option Trace
   Traced = seen always None with_event no_event
@@ -101,7 +101,7 @@ module _ (limit : ℕ) where
       on (comes_cut is over) = comes_cut (ap (with_first event) is) (omega (arith, over, size))
 
   comes_next : (n m j : ℕ) (x : run.Next) (trace : Trace) → Comes n → m ≤ limit → seen_next always None with_event no_event (Traced n) j x ≡ Some trace
-      → ComesOf limit m trace (seen_next evaluates_narrow (Some outcome.Wide) (at_most limit) returned (Seen n) m x)
+      → ComesOf limit m trace (seen_next evaluates_fitting (Some outcome.Wide) (at_most limit) returned (Seen n) m x)
   comes_next n m j (run.Goes w env) trace more few is = more m j w env trace few is
   comes_next n m j (run.Passes mark w env) trace more few is = on (nat_lt m limit) refl
     where
@@ -127,21 +127,21 @@ module _ (limit : ℕ) where
 
   comes : (n : ℕ) → Comes n
   comes zero m j w env trace few is = cc
-  comes (suc n) m j w env trace few is = on (evaluates_narrow (evaluated w) env) (comes n)
+  comes (suc n) m j w env trace few is = on (evaluates_fitting (evaluated w) env) (comes n)
     where
-      on : (narrow : Bool) → Comes n → ComesOf limit m trace (cond narrow (seen_next evaluates_narrow (Some outcome.Wide) (at_most limit) returned (Seen n) m (step w env)) (Some outcome.Wide))
+      on : (narrow : Bool) → Comes n → ComesOf limit m trace (cond narrow (seen_next evaluates_fitting (Some outcome.Wide) (at_most limit) returned (Seen n) m (step w env)) (Some outcome.Wide))
       on true more = comes_next n m j (step w env) trace more few is
       on false more = comes_wide refl
 
 -- what comes of the run in as many steps as the trace has
 comes_of : (f : Program) (inputs : List ℤ) (limit : ℕ) (trace : Trace) (h : IsTrace f inputs trace)
-    → ComesOf limit 0 trace (seen evaluates_narrow (Some outcome.Wide) (at_most limit) returned h.steps 0 (start f) (spread (first_variables f.params) f.vars inputs))
+    → ComesOf limit 0 trace (seen evaluates_fitting (Some outcome.Wide) (at_most limit) returned h.steps 0 (start f) (spread (first_variables f.params) f.vars inputs))
 comes_of f inputs limit trace h = comes limit h.steps 0 0 (start f) (spread (first_variables f.params) f.vars inputs) trace (omega arith) h.ran
 
 pub trace_is_judged : TraceIsJudged
 trace_is_judged f inputs limit trace h few = on (comes_of f inputs limit trace h)
   where
-    on : ComesOf limit 0 trace (seen evaluates_narrow (Some outcome.Wide) (at_most limit) returned h.steps 0 (start f) (spread (first_variables f.params) f.vars inputs))
+    on : ComesOf limit 0 trace (seen evaluates_fitting (Some outcome.Wide) (at_most limit) returned h.steps 0 (start f) (spread (first_variables f.params) f.vars inputs))
         → IsJudged f inputs limit (outcome.Returned trace) ⊎ IsJudged f inputs limit outcome.Wide
     on (comes_back is within) = inl (record { steps = h.steps; is = is })
     on (comes_wide is) = inr (record { steps = h.steps; is = is })
@@ -150,7 +150,7 @@ trace_is_judged f inputs limit trace h few = on (comes_of f inputs limit trace h
 pub cut_off_passes_more : CutOffPassesMore
 cut_off_passes_more f inputs limit trace cut h = on (comes_of f inputs limit trace h)
   where
-    on : ComesOf limit 0 trace (seen evaluates_narrow (Some outcome.Wide) (at_most limit) returned h.steps 0 (start f) (spread (first_variables f.params) f.vars inputs)) → limit < length trace.events
+    on : ComesOf limit 0 trace (seen evaluates_fitting (Some outcome.Wide) (at_most limit) returned h.steps 0 (start f) (spread (first_variables f.params) f.vars inputs)) → limit < length trace.events
     on (comes_back is within) =
         let same : outcome.CutOff ≡ outcome.Returned trace = judged_once f inputs limit _ _ cut (record { steps = h.steps; is = is }) in
         cc

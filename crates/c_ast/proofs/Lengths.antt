@@ -1,5 +1,5 @@
 -- How many values are in scope, and how many an environment has.
-use Rattle.std.proofs.Common.{◌≡◌, ℕ, zero, suc, ◌≤◌, Bool, true, false, List, [], ◌∷◌, length, Option, Some, None, ℤ, ap, ◌∙◌, refl, arith, length-set}
+use Rattle.std.proofs.Common.{◌≡◌, ℕ, zero, suc, ◌≤◌, Bool, true, false, List, [], ◌∷◌, length, Option, Some, None, ℤ, pos, ap, ◌∙◌, refl, arith, length-set}
 use Rattle.c_ast.specs.Tree.{Nil, Set, If, Loop, Break, Continue, Return, Mark, Block}
 use Rattle.c_ast.specs.Value.{eval}
 use Rattle.c_ast.specs.Step.{Scope, is_in, Run, Test, Cond, Tail, Work, with_value, values_from, spread_one, spread_from, spread, Next, Goes, Passes, Ends, tested, step}
@@ -16,18 +16,19 @@ length-values_from scope i (v ∷ a) (w ∷ b) long = more (is_in scope i) (leng
     more true e = ap suc e
     more false e = e
 
-pub length-spread_from : (scope : Scope) (i n : ℕ) (values : List ℤ) → length (spread_from scope i n values) ≡ n
-length-spread_from scope i zero values = refl
-length-spread_from scope i (suc n) values = more (is_in scope i) values (length-spread_from scope (suc i) n)
+pub length-spread_from : {A : Type 0} (absent : A) (scope : Scope) (i n : ℕ) (values : List A)
+    → length (spread_from absent scope i n values) ≡ n
+length-spread_from absent scope i zero values = refl
+length-spread_from {A = A} absent scope i (suc n) values = more (is_in scope i) values (length-spread_from absent scope (suc i) n)
   where
-    more : (t : Bool) (values : List ℤ) → ((left : List ℤ) → length (spread_from scope (suc i) n left) ≡ n)
-        → length (spread_one t values (spread_from scope (suc i) n)) ≡ suc n
+    more : (t : Bool) (values : List A) → ((left : List A) → length (spread_from absent scope (suc i) n left) ≡ n)
+        → length (spread_one absent t values (spread_from absent scope (suc i) n)) ≡ suc n
     more true [] long = ap suc (long [])
     more true (v ∷ values) long = ap suc (long values)
     more false values long = ap suc (long values)
 
 pub length-spread : (scope : Scope) (n : ℕ) (values : List ℤ) → length (spread scope n values) ≡ n
-length-spread scope n values = length-spread_from scope 0 n values
+length-spread scope n values = length-spread_from (pos 0) scope 0 n values
 
 pub values_from-few : (scope : Scope) (i : ℕ) (env : List ℤ) → length (values_from scope i env) ≤ length env
 values_from-few scope i [] = omega arith

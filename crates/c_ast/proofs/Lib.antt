@@ -10,12 +10,14 @@ pub mod MarksAhead
 pub mod Lengths
 pub mod Scoped
 pub mod Places
-pub mod Steps
 pub mod InScope
 pub mod Environments
-pub mod Interpreting
 pub mod RunSamples
 pub mod WorkedRuns
 pub mod Outcomes
 pub mod Judging
 pub mod Distinct
+pub mod Agreeing
+pub mod Nesting
+pub mod Stepping
+pub mod Passing

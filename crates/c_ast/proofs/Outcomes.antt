@@ -2,14 +2,14 @@
 use Rattle.std.proofs.Common.{◌≡◌, ℕ, zero, suc, Bool, true, false, cond, List, ◌∷◌, Option, Some, None, ℤ, refl, ap, ◌∙◌}
 use Rattle.c_ast.specs.declared.trace.Event.{Event}
 use Rattle.c_ast.specs.declared.trace.Trace.{Trace}
-use Rattle.c_ast.specs.declared.interpreter.Outcome.{Outcome}
-use Rattle.c_ast.specs.declared.interpreter.Outcome.TheVariants as outcome
+use Rattle.c_ast.specs.declared.trace.Outcome.{Outcome}
+use Rattle.c_ast.specs.declared.trace.Outcome.TheVariants as outcome
 use Rattle.c_ast.specs.Step as run
 use Rattle.c_ast.specs.Step.{Work, scope_of, values_in, first_variables, step, evaluated, start, spread, seen, seen_next}
 use Rattle.c_ast.specs.Returns.{always}
 use Rattle.c_ast.specs.Trace.{with_event, no_event}
-use Rattle.c_ast.specs.Shown.{evaluates_narrow}
-use Rattle.c_ast.specs.Interpreted.{with_first, at_event, returned, interpreted, or_cut_off}
+use Rattle.c_ast.specs.FitsRun.{evaluates_fitting}
+use Rattle.c_ast.specs.Outcome.{with_first, at_event, returned, interpreted, or_cut_off}
 use Rattle.c_ast.specs.Laws.{OutcomeIsTrace}
 
 -- the trace behind a first event
@@ -26,9 +26,9 @@ behind event (Some outcome.CutOff) trace is = cc
 
 trace_seen : (n i j : ℕ) (w : Work) (env : List ℤ) (trace : Trace) → interpreted n i w env ≡ Some (outcome.Returned trace) → seen always None with_event no_event n j w env ≡ Some trace
 trace_seen zero i j w env trace is = cc
-trace_seen (suc n) i j w env trace is = at (evaluates_narrow (evaluated w) env) is (λ i j. trace_seen n i j)
+trace_seen (suc n) i j w env trace is = at (evaluates_fitting (evaluated w) env) is (λ i j. trace_seen n i j)
   where
-    on : (x : run.Next) → seen_next evaluates_narrow (Some outcome.Wide) at_event returned (interpreted n) i x ≡ Some (outcome.Returned trace)
+    on : (x : run.Next) → seen_next evaluates_fitting (Some outcome.Wide) at_event returned (interpreted n) i x ≡ Some (outcome.Returned trace)
         → ((i j : ℕ) (w : Work) (env : List ℤ) (trace : Trace) → interpreted n i w env ≡ Some (outcome.Returned trace) → seen always None with_event no_event n j w env ≡ Some trace)
         → seen_next always None with_event no_event (seen always None with_event no_event n) j x ≡ Some trace
     on (run.Goes w env) is later = later i j w env trace is
@@ -37,7 +37,7 @@ trace_seen (suc n) i j w env trace is = at (evaluates_narrow (evaluated w) env) 
         ap (with_event j k (values_in (scope_of w) env)) (later (suc i) (suc j) w env b.later b.is) ∙ ap Some b.whole
     on (run.Ends v) is later = let same : no_event v ≡ trace = cc in ap Some same
 
-    at : (t : Bool) → cond t (seen_next evaluates_narrow (Some outcome.Wide) at_event returned (interpreted n) i (step w env)) (Some outcome.Wide) ≡ Some (outcome.Returned trace)
+    at : (t : Bool) → cond t (seen_next evaluates_fitting (Some outcome.Wide) at_event returned (interpreted n) i (step w env)) (Some outcome.Wide) ≡ Some (outcome.Returned trace)
         → ((i j : ℕ) (w : Work) (env : List ℤ) (trace : Trace) → interpreted n i w env ≡ Some (outcome.Returned trace) → seen always None with_event no_event n j w env ≡ Some trace)
         → seen_next always None with_event no_event (seen always None with_event no_event n) j (step w env) ≡ Some trace
     at true is later = on (step w env) is later

@@ -8,10 +8,10 @@ use Rattle.c_ast.specs.declared.expr.Expr.{Expr}
 use Rattle.c_ast.specs.declared.stmt.Stmt.TheVariants as stmt
 use Rattle.c_ast.specs.Tree.{Expression, Num, Var, Un, Bin, Cond, Nil, Return}
 use Rattle.c_ast.specs.View.{expression_of, statements_of}
-use Rattle.c_ast.specs.Value.{eval, VariablesBelow}
+use Rattle.c_ast.specs.Value.{eval, CanEvaluate}
 use Rattle.c_ast.specs.Step.{Scope, Run, is_in, first_variables, spread, spread_from}
 use Rattle.c_ast.specs.Formed.{IsOver, AreFormed}
-use Rattle.c_ast.specs.Narrow.{all_narrow, only_if, narrow_value}
+use Rattle.c_ast.specs.FitsRun.{parts_fit_run, only_if, fitting_value}
 use Rattle.c_ast.specs.Returns.{Returns, result_within}
 use Rattle.c_ast.specs.Function.{Function, IsFunction, ReturnsOne, program_of}
 use Rattle.c_ast.proofs.Fronts.{front-Return}
@@ -34,12 +34,12 @@ below-is_in : (n x : ℕ) → is_in (first_variables n) x ≡ true → x < n
 below-is_in n x is = elim (cases_lt x n) [ inl below ↦ below | inr above ↦ absurd (cc (is, is_in-above n x above)) ]
 
 -- past the variables in scope there are zeros
-spread_from-past : (scope : Scope) (i n : ℕ) (values : List ℤ) → ((x : ℕ) → i ≤ x → is_in scope x ≡ false) → spread_from scope i n values ≡ replicate n (pos 0)
+spread_from-past : (scope : Scope) (i n : ℕ) (values : List ℤ) → ((x : ℕ) → i ≤ x → is_in scope x ≡ false) → spread_from (pos 0) scope i n values ≡ replicate n (pos 0)
 spread_from-past scope i zero values none = refl
 spread_from-past scope i (suc n) values none = rw (none i (omega arith)) (ap (λ (l : List ℤ). pos 0 ∷ l) (spread_from-past scope (suc i) n values (λ x le. none x (omega arith))))
 
 spread_from-first : (scope : Scope) (i n : ℕ) (values : List ℤ) → ((x : ℕ) → i ≤ x → x < i + length values → is_in scope x ≡ true)
-    → ((x : ℕ) → i + length values ≤ x → is_in scope x ≡ false) → length values ≤ n → spread_from scope i n values ≡ values ++ replicate (n - length values) (pos 0)
+    → ((x : ℕ) → i + length values ≤ x → is_in scope x ≡ false) → length values ≤ n → spread_from (pos 0) scope i n values ≡ values ++ replicate (n - length values) (pos 0)
 spread_from-first scope i n [] all none le = let whole : n - 0 ≡ n = omega arith in rw whole (spread_from-past scope i n [] (λ x le. none x (omega arith)))
 spread_from-first scope i zero (v ∷ values) all none le = absurd (omega arith)
 spread_from-first scope i (suc n) (v ∷ values) all none le =
@@ -54,15 +54,15 @@ spread-parameters n vars values len le =
 
 -- ---- an expression over the parameters
 
-pub VariablesBelow-IsOver : (n : ℕ) (e : Expression) → IsOver (first_variables n) e → VariablesBelow n e
-VariablesBelow-IsOver n (Num z) over = tt
-VariablesBelow-IsOver n (Var x) over = below-is_in n x over
-VariablesBelow-IsOver n (Un op e) over = VariablesBelow-IsOver n e over
-VariablesBelow-IsOver n (Bin op e f) over = (VariablesBelow-IsOver n e over.0, VariablesBelow-IsOver n f over.1)
-VariablesBelow-IsOver n (Cond c e f) over = (VariablesBelow-IsOver n c over.0, VariablesBelow-IsOver n e over.1, VariablesBelow-IsOver n f over.2)
+pub CanEvaluate-IsOver : (n : ℕ) (e : Expression) → IsOver (first_variables n) e → CanEvaluate n e
+CanEvaluate-IsOver n (Num z) over = tt
+CanEvaluate-IsOver n (Var x) over = below-is_in n x over
+CanEvaluate-IsOver n (Un op e) over = CanEvaluate-IsOver n e over
+CanEvaluate-IsOver n (Bin op e f) over = (CanEvaluate-IsOver n e over.0, CanEvaluate-IsOver n f over.1, over.2)
+CanEvaluate-IsOver n (Cond c e f) over = (CanEvaluate-IsOver n c over.0, CanEvaluate-IsOver n e over.1, CanEvaluate-IsOver n f over.2)
 
 -- values behind those of its variables make no difference
-eval-append : (values others : List ℤ) (e : Expression) → VariablesBelow (length values) e → eval e (values ++ others) ≡ eval e values
+eval-append : (values others : List ℤ) (e : Expression) → CanEvaluate (length values) e → eval e (values ++ others) ≡ eval e values
 eval-append values others (Num z) below = refl
 eval-append values others (Var x) below = get_or-append values others (pos 0) x below
 eval-append values others (Un op e) below = rw (eval-append values others e below) refl
@@ -82,8 +82,8 @@ returned_over : (f : Function) (e : Expr) → IsFunction f → ReturnsOne f e �
 returned_over f e is one =
     (subst (AreFormed (length f.vars) (first_variables f.params) false) (ap statements_of one ∙ statements_of-Return e) is.formed).0
 
-pub returned_below : (f : Function) (e : Expr) → IsFunction f → ReturnsOne f e → VariablesBelow f.params (expression_of e)
-returned_below f e is one = VariablesBelow-IsOver f.params (expression_of e) (returned_over f e is one)
+pub returned_below : (f : Function) (e : Expr) → IsFunction f → ReturnsOne f e → CanEvaluate f.params (expression_of e)
+returned_below f e is one = CanEvaluate-IsOver f.params (expression_of e) (returned_over f e is one)
 
 pub Returns-Return : (f : Function) (e : Expr) → IsFunction f → ReturnsOne f e → (inputs : List ℤ) (value : ℤ) → length inputs ≡ f.params
     → (Returns (program_of f) inputs value ↔ (value ≡ eval (expression_of e) inputs))
@@ -92,7 +92,7 @@ Returns-Return f e is one inputs value len =
     let scope = first_variables f.params in
     let zeros = replicate (length f.vars - f.params) (pos 0) in
     let env : spread scope (length f.vars) inputs ≡ inputs ++ zeros = spread-parameters f.params (length f.vars) inputs len is.parameters in
-    let below : VariablesBelow (length inputs) (expression_of e) = subst (λ (n : ℕ). VariablesBelow n (expression_of e)) (sym len) (returned_below f e is one) in
+    let below : CanEvaluate (length inputs) (expression_of e) = subst (λ (n : ℕ). CanEvaluate n (expression_of e)) (sym len) (returned_below f e is one) in
     let same : eval (expression_of e) (inputs ++ zeros) ≡ eval (expression_of e) inputs = eval-append inputs zeros (expression_of e) below in (
       λ returns. result_within-Return scope (expression_of e) returns.steps (inputs ++ zeros) value (rw (body, env) at returns.ends) ∙ same,
       λ equal. record { steps = 1; ends = rw (body, env) (ap Some (same ∙ sym equal)) },
@@ -108,17 +108,17 @@ IfSome-from_cases (Some x) P Q R cases follows = follows x cases
 same_return : (f : Function) (e e' : Expr) → ReturnsOne f e → ReturnsOne f e' → e' ≡ e
 same_return f e e' one one' = let bodies : stmt.Return e' ∷ [] ≡ stmt.Return e ∷ [] = sym one' ∙ one in cc
 
-told : (f : Function) (e : Expr) (inputs : List ℤ) (narrow : Bool) (result : Option ℤ) → ReturnsOne f e → all_narrow (expression_of e) inputs ≡ narrow
+told : (f : Function) (e : Expr) (inputs : List ℤ) (narrow : Bool) (result : Option ℤ) → ReturnsOne f e → parts_fit_run (expression_of e) inputs ≡ narrow
     → result ≡ only_if narrow (eval (expression_of e) inputs) → Returns (program_of f) inputs (eval (expression_of e) inputs)
-    → MatchOption result ((e' : Expr) → ReturnsOne f e' → all_narrow (expression_of e') inputs ≡ false) (Returns (program_of f) inputs)
+    → MatchOption result ((e' : Expr) → ReturnsOne f e' → parts_fit_run (expression_of e') inputs ≡ false) (Returns (program_of f) inputs)
 told f e inputs true result one is given returns = rw given returns
 told f e inputs false result one is given returns =
-    rw given (λ e' one'. subst (λ (x : Expr). all_narrow (expression_of x) inputs ≡ false) (sym (same_return f e e' one one')) is)
+    rw given (λ e' one'. subst (λ (x : Expr). parts_fit_run (expression_of x) inputs ≡ false) (sym (same_return f e e' one one')) is)
 
 -- The narrow value of the one expression is what the function returns, and there is none where a part of it is wide.
-pub Returns-narrow_value : (f : Function) (e : Expr) (inputs : List ℤ) (result : Option ℤ) → ReturnsOne f e
+pub Returns-fitting_value : (f : Function) (e : Expr) (inputs : List ℤ) (result : Option ℤ) → ReturnsOne f e
     → ((values : List ℤ) (value : ℤ) → length values ≡ f.params → (Returns (program_of f) values value ↔ (value ≡ eval (expression_of e) values)))
-    → length inputs ≡ f.params → result ≡ narrow_value (expression_of e) inputs
-    → MatchOption result ((e' : Expr) → ReturnsOne f e' → all_narrow (expression_of e') inputs ≡ false) (Returns (program_of f) inputs)
-Returns-narrow_value f e inputs result one value len given =
-    told f e inputs (all_narrow (expression_of e) inputs) result one refl given ((value inputs (eval (expression_of e) inputs) len).1 refl)
+    → length inputs ≡ f.params → result ≡ fitting_value (expression_of e) inputs
+    → MatchOption result ((e' : Expr) → ReturnsOne f e' → parts_fit_run (expression_of e') inputs ≡ false) (Returns (program_of f) inputs)
+Returns-fitting_value f e inputs result one value len given =
+    told f e inputs (parts_fit_run (expression_of e) inputs) result one refl given ((value inputs (eval (expression_of e) inputs) len).1 refl)

@@ -1,9 +1,9 @@
 -- What comes of small functions, worked out by hand from the meaning of C's statements. The interpreter answers the same.
 use Rattle.std.proofs.Common.{◌≡◌, true, false, [], ◌∷◌, Some, pos, negsuc, refl}
 use Rattle.c_ast.specs.declared.expr.BinOp.TheVariants.{Add, Mul, Less, Equal}
-use Rattle.c_ast.specs.declared.interpreter.Outcome.TheVariants.{Returned, Wide, CutOff}
+use Rattle.c_ast.specs.declared.trace.Outcome.TheVariants.{Returned, Wide, CutOff}
 use Rattle.c_ast.specs.Tree.{Num, Var, Bin, Nil, Set, If, Loop, Break, Continue, Return, Block, Program}
-use Rattle.c_ast.specs.Interpreted.{outcome_within}
+use Rattle.c_ast.specs.Outcome.{outcome_within}
 use Rattle.c_ast.specs.Judged.{at_most}
 use Rattle.c_ast.specs.Sums.{sums}
 

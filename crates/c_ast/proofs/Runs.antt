@@ -2,14 +2,14 @@
 use Rattle.std.proofs.Common.{◌≡◌, ℕ, zero, suc, Bool, true, false, cond, nat_lt, List, Option, Some, None, ℤ, refl, sym, ap, ◌∙◌}
 use Rattle.c_ast.specs.declared.trace.Event.{Event}
 use Rattle.c_ast.specs.declared.trace.Trace.{Trace}
-use Rattle.c_ast.specs.declared.interpreter.Outcome.{Outcome}
-use Rattle.c_ast.specs.declared.interpreter.Outcome.TheVariants as outcome
+use Rattle.c_ast.specs.declared.trace.Outcome.{Outcome}
+use Rattle.c_ast.specs.declared.trace.Outcome.TheVariants as outcome
 use Rattle.c_ast.specs.Tree.{Expression}
 use Rattle.c_ast.specs.Step.{Work, Next, Goes, Passes, Ends, step, evaluated, scope_of, values_in, seen, seen_next, start, spread, first_variables}
 use Rattle.c_ast.specs.Returns.{always, no_mark, as_it_is}
 use Rattle.c_ast.specs.Trace.{with_event, no_event, trace_within}
-use Rattle.c_ast.specs.Shown.{evaluates_narrow}
-use Rattle.c_ast.specs.Interpreted.{with_first, returned}
+use Rattle.c_ast.specs.FitsRun.{evaluates_fitting}
+use Rattle.c_ast.specs.Outcome.{with_first, returned}
 use Rattle.c_ast.specs.Judged.{at_most}
 use Rattle.c_ast.specs.Laws.{ReturnsOnce, HasOneTrace, TraceReturns, IsJudgedOnce}
 
@@ -74,7 +74,7 @@ one_trace f inputs s t p q = (seen_agree Trace always None with_event no_event w
 
 -- what a run is judged to be is determined
 pub judged_once : IsJudgedOnce
-judged_once f inputs limit o p h k = (seen_agree Outcome evaluates_narrow (Some outcome.Wide) (at_most limit) returned (at_most-agrees limit) h.steps k.steps 0 _ _).by o p h.is k.is
+judged_once f inputs limit o p h k = (seen_agree Outcome evaluates_fitting (Some outcome.Wide) (at_most limit) returned (at_most-agrees limit) h.steps k.steps 0 _ _).by o p h.is k.is
 
 -- ---- the result of a trace
 

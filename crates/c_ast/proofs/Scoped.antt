@@ -2,23 +2,23 @@
 use Rattle.std.proofs.lemmas.Bool.{eqb-true}
 use Rattle.std.proofs.Common.{◌≡◌, ℕ, zero, suc, ◌<◌, ◌≤◌, Bool, true, false, eqb, ◌||◌, ◌∷◌, refl, sym, subst, arith}
 use Rattle.c_ast.specs.Tree.{Expression, Num, Var, Un, Bin, Cond}
-use Rattle.c_ast.specs.Value.{VariablesBelow}
+use Rattle.c_ast.specs.Value.{CanEvaluate}
 use Rattle.c_ast.specs.Step.{Scope, is_in, first_variables}
 use Rattle.c_ast.specs.Formed.{IsOver, IsSet}
 
 pub record IsBelow (n : ℕ) (s : Scope) : Type 0 where
   pub by : (x : ℕ) → is_in s x ≡ true → x < n
 
-pub over_below : (e : Expression) (n : ℕ) (s : Scope) → IsBelow n s → IsOver s e → VariablesBelow n e
+pub over_below : (e : Expression) (n : ℕ) (s : Scope) → IsBelow n s → IsOver s e → CanEvaluate n e
 over_below (Num z) n s below over = tt
 over_below (Var x) n s below over = below.by x over
 over_below (Un op e) n s below over = over_below e n s below over
-over_below (Bin op e f) n s below over = (over_below e n s below over.0, over_below f n s below over.1)
+over_below (Bin op e f) n s below over = (over_below e n s below over.0, over_below f n s below over.1, over.2)
 over_below (Cond c e f) n s below over = (over_below c n s below over.0, over_below e n s below over.1, over_below f n s below over.2)
 
-pub set_below : (known : Bool) (e : Expression) (n : ℕ) (s : Scope) → IsBelow n s → IsSet known s e → VariablesBelow n e
+pub set_below : (known : Bool) (e : Expression) (n : ℕ) (s : Scope) → IsBelow n s → IsSet known s e → CanEvaluate n e
 set_below true e n s below set = over_below e n s below set
-set_below false e n s below set = subst (VariablesBelow n) (sym set) tt
+set_below false e n s below set = subst (CanEvaluate n) (sym set) tt
 
 pub more_below : (n x : ℕ) (s : Scope) → x < n → IsBelow n s → IsBelow n (x ∷ s)
 more_below n x s here below = record { by = λ y is. on y (eqb x y) refl is }

@@ -2,10 +2,10 @@
 use Rattle.std.proofs.Common.{ℕ, zero, suc, ℤ, List, ◌≡◌, true, false, [], ◌∷◌, Some, pos, negsuc, refl}
 use Rattle.c_ast.specs.declared.expr.BinOp.TheVariants.{Add, Less, Greater, Equal, NotEqual}
 use Rattle.c_ast.specs.declared.trace.Event.{Event}
-use Rattle.c_ast.specs.declared.interpreter.Outcome.{Outcome}
-use Rattle.c_ast.specs.declared.interpreter.Outcome.TheVariants.{Returned}
+use Rattle.c_ast.specs.declared.trace.Outcome.{Outcome}
+use Rattle.c_ast.specs.declared.trace.Outcome.TheVariants.{Returned}
 use Rattle.c_ast.specs.Tree.{Expression, Num, Var, Bin, Statements, Nil, Set, If, Loop, Continue, Return, Block, Program}
-use Rattle.c_ast.specs.Interpreted.{outcome_within}
+use Rattle.c_ast.specs.Outcome.{outcome_within}
 
 abbrev declares : ℕ → Expression → Statements → Statements
 declares x e others = Set x (Num (pos 0)) (Set x e others)

@@ -1,16 +1,19 @@
 -- The numbers that bound a search.
 use Rattle.std.specs.Prelude.{ℕ, ◌≤◌}
 
+-- How many samples are run, how many marks a run may pass, how many rows an elimination may keep, and what the later
+-- samples are drawn from.
 pub record Bounds : Type 0 where
   pub samples : ℕ
   pub marks : ℕ
   pub rows : ℕ
   pub seed : ℕ
 
+-- The bounds of these numbers.
 abbrev pub bounds : ℕ → ℕ → ℕ → ℕ → Bounds
 bounds samples marks rows seed = record { samples = samples; marks = marks; rows = rows; seed = seed }
 
--- 1 to 1,000 samples, 1 to 250 marks of a run, and 1 to 4,000 rows of an elimination
+-- There are 1 to 1,000 samples, 1 to 250 marks of a run, and 1 to 4,000 rows of an elimination.
 pub record AreBounds (b : Bounds) : Type 0 where
   pub some_samples : 1 ≤ b.samples
   pub few_samples : b.samples ≤ 1000

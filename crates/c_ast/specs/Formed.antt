@@ -1,14 +1,16 @@
 -- Which statements make the body of a function.
 use Rattle.std.specs.Prelude.{◌≡◌, ℕ, ◌+◌, ◌<◌, ◌≤◌, ◌≤ℤ◌, pos, Bool, true, false, ◌==◌, ◌&&◌, not, ◌∷◌, Option, Some, None}
 use Rattle.c_ast.specs.Tree.{Expression, Num, Var, Un, Bin, Cond, Statements, Nil, Set, If, Loop, Break, Continue, Return, Mark, Block, Program}
+use Rattle.c_ast.specs.Value.{HasDivisor}
 use Rattle.c_ast.specs.Step.{Scope, is_in, first_variables}
 
--- The expression reads variables in scope alone, and each of its constants is at least 0.
+-- The expression reads variables in scope alone, each of its constants is at least 0, and each of its divisors is a constant
+-- of at least 1.
 abbrev pub IsOver : Scope → Expression → Type 0
 IsOver scope (Num z) = pos 0 ≤ℤ z
 IsOver scope (Var x) = is_in scope x ≡ true
 IsOver scope (Un op e) = IsOver scope e
-IsOver scope (Bin op e f) = IsOver scope e × IsOver scope f
+IsOver scope (Bin op e f) = IsOver scope e × IsOver scope f × HasDivisor op f
 IsOver scope (Cond c e f) = IsOver scope c × IsOver scope e × IsOver scope f
 
 -- A variable in scope takes the value of an expression; one that is not is declared, and becomes 0.
@@ -27,6 +29,7 @@ abbrev pub PassesMark : Option ℕ → Statements → Type 0
 PassesMark (Some mark) body = Unit {0}
 PassesMark None body = BeginsWithMark body
 
+-- The statements set variables, and do nothing else.
 abbrev pub HoldsSets : Statements → Type 0
 HoldsSets Nil = Unit {0}
 HoldsSets (Set x e others) = HoldsSets others
@@ -46,12 +49,12 @@ AreFormed n scope in_loop (Return e others) = IsOver scope e × AreFormed n scop
 AreFormed n scope in_loop (Mark mark others) = AreFormed n scope in_loop others
 AreFormed n scope in_loop (Block a others) = AreFormed n scope in_loop a × AreFormed n scope in_loop others
 
--- how often a test holds, 0 or 1
+-- How often a test holds, 0 or 1.
 abbrev pub one_if : Bool → ℕ
 one_if true = 1
 one_if false = 0
 
--- how often the statements declare the variable
+-- How often the statements declare the variable.
 abbrev pub declarations : ℕ → Scope → Statements → ℕ
 declarations x scope Nil = 0
 declarations x scope (Set y e others) = one_if (y == x && not (is_in scope y)) + declarations x (y ∷ scope) others
@@ -63,11 +66,12 @@ declarations x scope (Return e others) = declarations x scope others
 declarations x scope (Mark mark others) = declarations x scope others
 declarations x scope (Block a others) = declarations x scope a + declarations x scope others
 
+-- Whether a loop's own mark, if it has one, is this mark.
 abbrev pub is_mark : Option ℕ → ℕ → Bool
 is_mark None mark = false
 is_mark (Some own) mark = own == mark
 
--- how often the mark stands in the statements
+-- How often the mark stands in the statements.
 abbrev pub marks : ℕ → Statements → ℕ
 marks mark Nil = 0
 marks mark (Set x e others) = marks mark others

@@ -8,16 +8,18 @@ use Rattle.c_ast.specs.Tree.{Program}
 use Rattle.c_ast.specs.View.{statements_of}
 use Rattle.c_ast.specs.Formed.{IsProgram}
 
--- the parts of a function; the first of its variables are the parameters
+-- The parts of a function. The first of its variables are the parameters.
 pub record Function : Type 0 where
   pub name : List ℕ
   pub params : ℕ
   pub vars : List Var
   pub body : List Stmt
 
+-- The function of these parts.
 abbrev pub function : List ℕ → ℕ → List Var → List Stmt → Function
 function name params vars body = record { name = name; params = params; vars = vars; body = body }
 
+-- What a run needs of a function.
 abbrev pub program_of : Function → Program
 program_of f = record { params = f.params; vars = length f.vars; body = statements_of f.body }
 

@@ -4,15 +4,15 @@ use Rattle.c_ast.specs.declared.place.Place.{Place}
 use Rattle.c_ast.specs.declared.place.Place.TheVariants as place
 use Rattle.c_ast.specs.declared.trace.Event.{Event}
 use Rattle.c_ast.specs.declared.trace.Trace.{Trace}
-use Rattle.c_ast.specs.declared.interpreter.Outcome.{Outcome}
-use Rattle.c_ast.specs.declared.interpreter.Outcome.TheVariants as outcome
+use Rattle.c_ast.specs.declared.trace.Outcome.{Outcome}
+use Rattle.c_ast.specs.declared.trace.Outcome.TheVariants as outcome
 use Rattle.c_ast.specs.Tree.{Program}
 use Rattle.c_ast.specs.Step.{Work}
 use Rattle.c_ast.specs.Returns.{Returns}
 use Rattle.c_ast.specs.Trace.{IsTrace}
 use Rattle.c_ast.specs.Segment.{GoesOnFrom, FitsPlace, IsSegment}
 use Rattle.c_ast.specs.Formed.{IsProgram}
-use Rattle.c_ast.specs.Interpreted.{outcome_within}
+use Rattle.c_ast.specs.Outcome.{outcome_within}
 use Rattle.c_ast.specs.Judged.{IsJudged}
 
 -- A function returns at most one value on an input.

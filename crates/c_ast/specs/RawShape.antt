@@ -10,6 +10,7 @@ HasNaturalConstants (Un op e) = HasNaturalConstants e
 HasNaturalConstants (Bin op line e f) = HasNaturalConstants e × HasNaturalConstants f
 HasNaturalConstants (Cond c e f) = HasNaturalConstants c × HasNaturalConstants e × HasNaturalConstants f
 
+-- Each constant of the initialiser, if there is one, is at least 0.
 abbrev pub IsShapedDeclarator : RawDeclared → Type 0
 IsShapedDeclarator declared = (e : RawExpression) → declared.initialiser ≡ Some e → HasNaturalConstants e
 
@@ -24,6 +25,7 @@ abbrev pub IsForStart : RawStatements → Type 0
 IsForStart (Declare declarators Nil) = Unit {0}
 IsForStart others = IsForStep others
 
+-- Each constant of the condition, if there is one, is at least 0.
 abbrev pub IsShapedCondition : Option RawCondition → Type 0
 IsShapedCondition None = Unit {0}
 IsShapedCondition (Some cond) = HasNaturalConstants cond.cond
@@ -46,5 +48,6 @@ AreShaped (Mark mark others) = AreShaped others
 AreShaped (Block a others) = AreShaped a × AreShaped others
 AreShaped (Empty others) = AreShaped others
 
+-- The function's body has the shape that the grammar gives.
 abbrev pub IsShaped : RawFunction → Type 0
 IsShaped f = AreShaped f.body

@@ -4,7 +4,7 @@ use Rattle.c_ast.specs.declared.expr.UnOp.{UnOp}
 use Rattle.c_ast.specs.declared.expr.BinOp.{BinOp}
 use Rattle.c_ast.specs.declared.func.Var.{Var}
 
--- an expression; lines stand beside names and binary operators
+-- An expression. Lines stand beside names and binary operators.
 pub data RawExpression : Type 0 where
   Num : ℤ → RawExpression
   Named : List ℕ → ℕ → RawExpression
@@ -12,12 +12,12 @@ pub data RawExpression : Type 0 where
   Bin : BinOp → ℕ → RawExpression → RawExpression → RawExpression
   Cond : RawExpression → RawExpression → RawExpression → RawExpression
 
--- a loop's condition, with the mark that it names
+-- A loop's condition, with the mark that it names.
 pub record RawCondition : Type 0 where
   pub mark : Option ℕ
   pub cond : RawExpression
 
--- a declared variable, with its initialiser
+-- A declared variable, with its initialiser.
 pub record RawDeclared : Type 0 where
   pub var : Var
   pub initialiser : Option RawExpression
@@ -42,7 +42,7 @@ pub data RawStatements : Type 0 where
   Block : RawStatements → RawStatements → RawStatements
   Empty : RawStatements → RawStatements
 
--- a function: its name with its line, its parameters and its body
+-- A function: its name with its line, its parameters and its body.
 pub record RawFunction : Type 0 where
   pub name : List ℕ
   pub line : ℕ

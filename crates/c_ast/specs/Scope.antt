@@ -12,15 +12,17 @@ pub record IsPlace (f : Program) (place : Place) : Type 0 where
   pub work : Work
   pub from : GoesOnFrom f place work
 
+-- The variable in front of the others, where the test holds.
 abbrev pub with_variable : Bool → ℕ → List ℕ → List ℕ
 with_variable true x variables = x ∷ variables
 with_variable false x variables = variables
 
--- those of n variables from x on that are in scope, by rising number
+-- Those of n variables from x on that are in scope, by rising number.
 abbrev pub variables_from : Scope → ℕ → ℕ → List ℕ
 variables_from scope x zero = []
 variables_from scope x (suc n) = with_variable (is_in scope x) x (variables_from scope (suc x) n)
 
+-- Those of n variables that are in scope, by rising number.
 abbrev pub variables_in : Scope → ℕ → List ℕ
 variables_in scope n = variables_from scope 0 n
 
@@ -30,10 +32,12 @@ AreInScope f place variables = (work : Work) → GoesOnFrom f place work → var
 
 -- ---- the way to a mark
 
+-- A variable that is set in front of the mark, where the mark is found: it is the oldest of them.
 abbrev pub with_set : ℕ → Option Scope → Option Scope
 with_set x None = None
 with_set x (Some scope) = Some (scope ++ x ∷ [])
 
+-- Nothing is set in front of a mark that is found here.
 abbrev pub none_before : Bool → Option Scope
 none_before true = Some []
 none_before false = None

@@ -34,14 +34,15 @@ GoesOnFrom f place.Entry work = work ≡ start f
 GoesOnFrom f (place.Mark mark) work = Follows f mark work
 GoesOnFrom f place.Exit work = ⊥
 
+-- A mark and the values there, whatever is seen after it.
 abbrev pub at_mark : ℕ → ℕ → List ℤ → Option (Place × List ℤ) → Option (Place × List ℤ)
 at_mark marks mark values others = Some (place.Mark mark, values)
 
--- the result alone has a value at the exit
+-- The exit, where the result alone has a value.
 abbrev pub at_exit : ℤ → Place × List ℤ
 at_exit value = (place.Exit, value ∷ [])
 
--- the first place that at most n steps meet, with the values in scope there
+-- The first place that at most n steps meet, with the values in scope there.
 abbrev pub met_within : ℕ → Work → List ℤ → Option (Place × List ℤ)
 met_within n = seen always None at_mark at_exit n 0
 

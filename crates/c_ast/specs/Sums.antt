@@ -3,7 +3,7 @@ use Rattle.std.specs.Prelude.{Some, true, pos}
 use Rattle.c_ast.specs.declared.expr.BinOp.TheVariants.{Add, Less}
 use Rattle.c_ast.specs.Tree.{Num, Var, Bin, Nil, Set, Loop, Return, Program}
 
--- int f(int n) { int i = 0; int s = 0; while (__mark(42) & (i < n)) { s = s + i; i = i + 1; } return s; }
+-- The program int f(int n) { int i = 0; int s = 0; while (__mark(42) & (i < n)) { s = s + i; i = i + 1; } return s; }
 abbrev pub sums : Program
 sums = record {
   params = 1;

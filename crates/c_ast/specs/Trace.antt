@@ -5,15 +5,16 @@ use Rattle.c_ast.specs.Tree.{Program}
 use Rattle.c_ast.specs.Step.{Work, first_variables, start, spread, seen}
 use Rattle.c_ast.specs.Returns.{always}
 
--- a mark in front of what follows it
+-- A mark in front of the trace that follows it.
 abbrev pub with_event : ℕ → ℕ → List ℤ → Option Trace → Option Trace
 with_event marks mark values None = None
 with_event marks mark values (Some trace) = Some (record { events = record { mark = mark; values = values } ∷ trace.events; result = trace.result })
 
+-- The trace of a run that passes no mark.
 abbrev pub no_event : ℤ → Trace
 no_event value = record { events = []; result = value }
 
--- the trace, where at most n steps end the run
+-- The trace, where at most n steps end the run.
 abbrev pub trace_within : ℕ → Work → List ℤ → Option Trace
 trace_within n = seen always None with_event no_event n 0
 

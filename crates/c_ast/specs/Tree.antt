@@ -3,7 +3,7 @@ use Rattle.std.specs.Prelude.{ℕ, Bool, Option, ℤ}
 use Rattle.c_ast.specs.declared.expr.UnOp.{UnOp}
 use Rattle.c_ast.specs.declared.expr.BinOp.{BinOp}
 
--- an expression
+-- An expression.
 pub data Expression : Type 0 where
   Num : ℤ → Expression
   Var : ℕ → Expression
@@ -11,7 +11,7 @@ pub data Expression : Type 0 where
   Bin : BinOp → Expression → Expression → Expression
   Cond : Expression → Expression → Expression → Expression
 
--- a list of statements: each constructor but the first has the rest of the list last
+-- A list of statements: each constructor but the first has the rest of the list last.
 pub data Statements : Type 0 where
   Nil : Statements
   Set : ℕ → Expression → Statements → Statements
@@ -24,7 +24,7 @@ pub data Statements : Type 0 where
   Mark : ℕ → Statements → Statements
   Block : Statements → Statements → Statements
 
--- what a run needs of a function: the numbers of its parameters and of its variables, and its body
+-- What a run needs of a function: the numbers of its parameters and of its variables, and its body.
 pub record Program : Type 0 where
   pub params : ℕ
   pub vars : ℕ

@@ -7,7 +7,7 @@ use Rattle.c_ast.specs.declared.expr.Expr.TheOpen.{Expr-F}
 use Rattle.c_ast.specs.declared.stmt.Stmt.{Stmt, fold-Stmt}
 use Rattle.c_ast.specs.declared.stmt.Stmt.TheOpen.{Stmt-F}
 
--- one level of an expression, over the trees of its parts
+-- One level of an expression, over the trees of its parts.
 abbrev pub expression_level : Expr-F Expression → Expression
 expression_level (Expr-F.Num z) = tree.Num z
 expression_level (Expr-F.Var x) = tree.Var x
@@ -15,6 +15,7 @@ expression_level (Expr-F.Un op e) = tree.Un op e
 expression_level (Expr-F.Bin op e f) = tree.Bin op e f
 expression_level (Expr-F.Cond c e f) = tree.Cond c e f
 
+-- The tree of an expression.
 abbrev pub expression_of : Expr → Expression
 expression_of = fold-Expr Expression expression_level
 
@@ -23,7 +24,7 @@ abbrev pub joined : List (Statements → Statements) → Statements
 joined [] = tree.Nil
 joined (first ∷ others) = first (joined others)
 
--- one level of a statement, over what its parts put in front
+-- One level of a statement, over what its parts put in front.
 abbrev pub statement_level : Stmt-F (Statements → Statements) → Statements → Statements
 statement_level (Stmt-F.Set x e) others = tree.Set x (expression_of e) others
 statement_level (Stmt-F.If e a b) others = tree.If (expression_of e) (joined a) (joined b) others
@@ -34,8 +35,10 @@ statement_level (Stmt-F.Return e) others = tree.Return (expression_of e) others
 statement_level (Stmt-F.Mark k) others = tree.Mark k others
 statement_level (Stmt-F.Block a) others = tree.Block (joined a) others
 
+-- What a statement puts in front of the rest of its list.
 abbrev pub put_in_front : Stmt → Statements → Statements
 put_in_front = fold-Stmt (Statements → Statements) statement_level
 
+-- The tree of a list of statements.
 abbrev pub statements_of : List Stmt → Statements
 statements_of stmts = joined (map put_in_front stmts)

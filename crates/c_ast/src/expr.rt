@@ -13,6 +13,10 @@ pub enum UnOp {
 #[derive(Clone, Copy, Debug, PartialEq, Eq)]
 pub enum BinOp {
     Mul,
+    /// Truncated toward zero (6.5.5, paragraph 6).
+    Div,
+    /// What is left of the left operand, with its sign (6.5.5, paragraph 6).
+    Rem,
     Add,
     Sub,
     Less,

@@ -43,7 +43,7 @@ impl Model for Func {
 impl Func {
     ghost use Rattle.c_ast.specs.Function.{Function, IsFunction, ReturnsOne, function, program_of};
     ghost use Rattle.c_ast.specs.Returns.{Returns};
-    ghost use Rattle.c_ast.specs.Value.{eval, VariablesBelow};
+    ghost use Rattle.c_ast.specs.Value.{eval, CanEvaluate};
     ghost use Rattle.c_ast.specs.View.{expression_of};
 
     /// The function of these parts, of which the first `params` variables are the parameters. Takes no memory.
@@ -102,7 +102,7 @@ impl Func {
     /// nothing else is.
     pub fn returned(&self) -> Option<&Expr>
         ensures returns { MatchOption result ((e : Expr) → ¬ ReturnsOne self.now e) (λ e. ReturnsOne self.now e.now) }
-        ensures variables { IfSome result (λ e. VariablesBelow self.now.params (expression_of e.now)) }
+        ensures variables { IfSome result (λ e. CanEvaluate self.now.params (expression_of e.now)) }
         ensures value { IfSome result (λ e. (inputs : List ℤ) (value : ℤ) → length inputs ≡ self.now.params
             → (Returns (program_of self.now) inputs value ↔ (value ≡ eval (expression_of e.now) inputs))) }
     {

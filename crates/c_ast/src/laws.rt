@@ -1,5 +1,20 @@
-//! Laws of runs, each the contract of a function that does nothing. `specs/Laws.antt` states them.
+//! Laws of values and runs, each the contract of a function that does nothing. `specs/` states them, most in `Laws.antt`.
+ghost use Rattle.c_ast.specs.Division.{LawOfQuotients, LawOfRemainders, LawOfDivision};
+ghost use Rattle.c_ast.specs.Place.{LawOfPlaces};
+ghost use Rattle.c_ast.specs.Passing.{TraceIsSegments};
 ghost use Rattle.c_ast.specs.Laws.{ReturnsOnce, HasOneTrace, TraceReturns, WorkIsDetermined, NextPlaceIsDetermined, NextPlaceExists, MeetsFittingValues, TraceFits, OutcomeIsTrace, IsJudgedOnce, JudgedIsTrace, CutOffPassesMore, TraceIsJudged};
+
+/// The values of `/` and `%` are those of the standard: a quotient that is truncated toward zero, and what it leaves.
+pub fn law_of_division()
+    ensures quotients { LawOfQuotients }
+    ensures remainders { LawOfRemainders }
+    ensures division { LawOfDivision }
+{}
+
+/// Whether two places are one.
+pub fn law_of_places()
+    ensures { LawOfPlaces }
+{}
 
 /// A function returns at most one value on an input.
 pub fn law_of_results()
@@ -12,6 +27,7 @@ pub fn law_of_traces()
     ensures result { TraceReturns }
     ensures fits { TraceFits }
     ensures interpreted { OutcomeIsTrace }
+    ensures segments { TraceIsSegments }
 {}
 
 /// From each place, with any values, exactly one place is met next, with one list of values, which fits it.

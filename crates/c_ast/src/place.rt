@@ -8,9 +8,10 @@ pub enum Place {
     Exit,
 }
 
-/// Which of two functions is spoken of.
+/// Which of two functions is spoken of, or the condition on the inputs, which is asked before both.
 #[derive(Clone, Copy, Debug, PartialEq, Eq)]
 pub enum Side {
     A,
     B,
+    Pre,
 }

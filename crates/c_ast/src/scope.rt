@@ -1,7 +1,7 @@
 //! The variables in scope at a place (ISO C11, 6.2.1).
-ghost use Rattle.std.specs.Prelude.{◌≡◌, ◌==◌, ◌++◌, IfOk};
+ghost use Rattle.std.specs.Prelude.{◌≡◌, ◌==◌, ◌++◌, length, slice_index_or, pos, IfOk};
 ghost use Rattle.c_ast.specs.View.{put_in_front, statements_of};
-ghost use Rattle.c_ast.specs.Step.{is_in, first_variables};
+ghost use Rattle.c_ast.specs.Step.{is_in, first_variables, spread};
 ghost use Rattle.c_ast.specs.Formed.{is_mark};
 ghost use Rattle.c_ast.specs.Scope.{none_before, set_before, SetsBefore};
 
@@ -143,4 +143,25 @@ impl Func {
         }
         Ok(variables)
     }
+}
+
+fn input_at(inputs: &[i128], x: usize) -> i128
+    ensures { result ≡ slice_index_or inputs.now x (pos 0) }
+{
+    if x < inputs.len() { inputs[x] } else { 0 }
+}
+
+/// The values of all variables as a run begins: the inputs, and 0 for all that are no parameters.
+pub fn first_environment(
+    alloc: Global,
+    vars: usize,
+    inputs: &[i128],
+) -> Result<Vec<i128>, AllocError>
+    ensures { IfOk result (λ values. values.items ≡ spread (first_variables (length inputs.now)) vars inputs.now) }
+{
+    let mut values = Vec::new(alloc);
+    for x in 0..vars {
+        values.push(input_at(inputs, x))?;
+    }
+    Ok(values)
 }

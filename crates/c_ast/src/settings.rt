@@ -4,6 +4,15 @@ ghost use Rattle.c_ast.specs.Bounds.{Bounds, AreBounds, bounds};
 
 use std::marker::Model;
 
+/// The greatest number of samples. The least is 1.
+pub const MOST_SAMPLES: u32 = 1000;
+
+/// The greatest number of marks that a run may pass. The least is 1.
+pub const MOST_MARKS: u32 = 250;
+
+/// The greatest number of rows that an elimination may keep. The least is 1.
+pub const MOST_ROWS: u32 = 4000;
+
 /// How much is tried: numbers within their ranges.
 #[derive(Clone, Copy, Debug)]
 pub struct Settings {
@@ -31,9 +40,9 @@ impl Settings {
         ensures in_range { IsSome result ↔ AreBounds (bounds samples marks rows seed) }
         ensures settings { IfSome result (λ settings. settings ≡ bounds samples marks rows seed) }
     {
-        let in_range = (1..=1000).contains(&samples)
-            && (1..=250).contains(&marks)
-            && (1..=4000).contains(&rows);
+        let in_range = (1..=MOST_SAMPLES).contains(&samples)
+            && (1..=MOST_MARKS).contains(&marks)
+            && (1..=MOST_ROWS).contains(&rows);
         if in_range {
             Some(Settings {
                 samples,

@@ -1,7 +1,10 @@
-//! What a search is about: two functions with as many parameters, and the settings.
-ghost use Rattle.std.specs.Prelude.{◌≡◌, ◌≢◌, ◌↔◌, IsTrue, IfOk, MatchResult};
+//! What a search is about: two functions with as many parameters, the settings, and a condition on the inputs.
+ghost use Rattle.std.specs.Prelude.{◌≡◌, ◌≢◌, ◌↔◌, IsTrue, IfOk, MatchResult, Some, None};
+ghost use Rattle.std.specs.Option.{option_copied};
 
-use crate::{Func, Settings};
+use crate::copy::copy_expr;
+use crate::same::same_expr;
+use crate::{Expr, Func, Settings};
 use std::alloc::{AllocError, Global};
 use std::marker::Model;
 
@@ -12,37 +15,91 @@ pub struct Arity {
     pub second: u32,
 }
 
-/// Two functions that are compared, and the settings.
+/// Two functions that are compared, the settings, and the condition that the inputs are to meet, if there is one.
 #[derive(Debug, Drop)]
 pub struct Subject {
     first: Func,
     second: Func,
     settings: Settings,
+    condition: Option<Expr>,
 }
 
 impl Model for Subject {
     ghost use Rattle.std.specs.Coded.{codes};
     ghost use Rattle.c_ast.specs.contracts.stmt.Stmt as stmts;
-    ghost use Rattle.c_ast.specs.Comparison.{Comparison, HasOneArity};
+    ghost use Rattle.c_ast.specs.contracts.expr.Expr as exprs;
+    ghost use Rattle.c_ast.specs.Comparison.{Comparison, IsComparison, comparison};
 
     ghost Value = { Comparison };
 
-    ghost coded = { Prim.hlevel (codes, stmts.the_row.coded) };
+    ghost coded = { Prim.hlevel (codes, stmts.the_row.coded, exprs.the_row.coded) };
 
-    ghost view = { λ s. record { first = s.first; second = s.second; settings = s.settings } };
+    ghost view = { λ s. comparison s.first s.second s.settings s.condition };
 
-    ghost invariant = { λ s. HasOneArity (record { first = s.first; second = s.second; settings = s.settings }) };
+    ghost invariant = { λ s. IsComparison (comparison s.first s.second s.settings s.condition) };
+}
+
+fn same_condition(first: &Option<Expr>, second: &Option<Expr>) -> bool
+    ensures { IsTrue result ↔ (first.now ≡ second.now) }
+{
+    match (first, second) {
+        (None, None) => true,
+        (Some(condition), Some(other)) => same_expr(condition, other),
+        _ => false,
+    }
+}
+
+fn copy_condition(alloc: Global, condition: &Option<Expr>) -> Result<Option<Expr>, AllocError>
+    ensures { IfOk result (λ made. made ≡ condition.now) }
+{
+    match condition {
+        None => Ok(None),
+        Some(condition) => {
+            let made = copy_expr(alloc, condition)?;
+            Ok(Some(made))
+        }
+    }
 }
 
 impl Subject {
-    ghost use Rattle.c_ast.specs.Comparison.{Comparison, HasOneArity, comparison};
+    ghost use Rattle.c_ast.specs.Function.{IsFunction};
+    ghost use Rattle.c_ast.specs.Comparison.{Comparison, IsComparison, IsCondition, comparison};
     ghost use Rattle.c_ast.specs.declared.subject.Arity.{Arity};
 
-    /// The subject of these functions, unless the numbers of their parameters differ. Takes no memory; refused
-    /// functions are dropped.
+    /// The subject of these functions, unless the numbers of their parameters differ. All inputs meet its
+    /// condition. Takes no memory; refused functions are dropped.
     pub fn new(first: Func, second: Func, settings: Settings) -> Result<Subject, Arity>
         ensures { MatchResult result
-            (λ subject. (first.params ≡ second.params) × (subject ≡ comparison first second settings))
+            (λ subject. (first.params ≡ second.params) × (subject ≡ comparison first second settings None))
+            (λ arity. (first.params ≢ second.params) × (arity.first ≡ first.params) × (arity.second ≡ second.params)) }
+    {
+        Subject::of_parts(first, second, settings, None)
+    }
+
+    /// The same with a condition on the inputs: an expression over the parameters of the first function.
+    pub fn with_condition(
+        first: Func,
+        second: Func,
+        settings: Settings,
+        condition: Expr,
+    ) -> Result<Subject, Arity>
+        requires { IsCondition first condition }
+        ensures { MatchResult result
+            (λ subject. (first.params ≡ second.params) × (subject ≡ comparison first second settings (Some condition)))
+            (λ arity. (first.params ≢ second.params) × (arity.first ≡ first.params) × (arity.second ≡ second.params)) }
+    {
+        Subject::of_parts(first, second, settings, Some(condition))
+    }
+
+    fn of_parts(
+        first: Func,
+        second: Func,
+        settings: Settings,
+        condition: Option<Expr>,
+    ) -> Result<Subject, Arity>
+        requires { (given : Expr) → condition ≡ Some given → IsCondition first given }
+        ensures { MatchResult result
+            (λ subject. (first.params ≡ second.params) × (subject ≡ comparison first second settings condition))
             (λ arity. (first.params ≢ second.params) × (arity.first ≡ first.params) × (arity.second ≡ second.params)) }
     {
         let (m, n) = (first.params(), second.params());
@@ -52,24 +109,28 @@ impl Subject {
                 second: n,
             });
         }
+        let _ = first.body();
+        let _ = second.body();
         Ok(Subject {
             first,
             second,
             settings,
+            condition,
         })
     }
 
     /// The first function.
     pub fn first(&self) -> &Func
         ensures function { result.now ≡ self.now.first }
-        ensures arity { HasOneArity self.now }
+        ensures formed { IsComparison self.now }
     {
         &self.first
     }
 
     /// The second function.
     pub fn second(&self) -> &Func
-        ensures { result.now ≡ self.now.second }
+        ensures function { result.now ≡ self.now.second }
+        ensures formed { IsComparison self.now }
     {
         &self.second
     }
@@ -81,6 +142,14 @@ impl Subject {
         self.settings
     }
 
+    /// The condition on the inputs, if one is given.
+    pub fn condition(&self) -> Option<&Expr>
+        ensures condition { option_copied result ≡ self.now.condition }
+        ensures formed { IsComparison self.now }
+    {
+        self.condition.as_ref()
+    }
+
     /// Whether all is equal. Takes no memory.
     pub fn same(&self, other: &Subject) -> bool
         ensures { IsTrue result ↔ (self.now ≡ other.now) }
@@ -88,6 +157,7 @@ impl Subject {
         self.first.same(&other.first)
             && self.second.same(&other.second)
             && self.settings.same(&other.settings)
+            && same_condition(&self.condition, &other.condition)
     }
 
     /// An equal subject.
@@ -96,10 +166,12 @@ impl Subject {
     {
         let first = self.first.copy(alloc)?;
         let second = self.second.copy(alloc)?;
+        let condition = copy_condition(alloc, &self.condition)?;
         Ok(Subject {
             first,
             second,
             settings: self.settings,
+            condition,
         })
     }
 }

@@ -1,7 +1,7 @@
 //! Values that were worked out by hand, from the meaning of C's operators. The trees here have the variables 0 and 1.
 ghost use Rattle.std.specs.Prelude.{◌<◌, IfOk};
 ghost use Rattle.c_ast.specs.View.{expression_of};
-ghost use Rattle.c_ast.specs.Value.{VariablesBelow};
+ghost use Rattle.c_ast.specs.Value.{CanEvaluate};
 
 use crate::{BinOp, Expr, UnOp, value_of};
 use sqlite_items::Boxed;
@@ -13,22 +13,22 @@ const HALF: i128 = 633_825_300_114_114_700_748_351_602_688;
 
 fn var(x: u32) -> Expr
     requires { x < 2 }
-    ensures { VariablesBelow 2 (expression_of result) }
+    ensures { CanEvaluate 2 (expression_of result) }
 {
     Expr::Var(x)
 }
 
 fn un(alloc: Global, op: UnOp, operand: Expr) -> Result<Expr, AllocError>
-    requires { VariablesBelow 2 (expression_of operand) }
-    ensures { IfOk result (λ made. VariablesBelow 2 (expression_of made)) }
+    requires { CanEvaluate 2 (expression_of operand) }
+    ensures { IfOk result (λ made. CanEvaluate 2 (expression_of made)) }
 {
     Ok(Expr::Un(op, Boxed::new(alloc, operand)?))
 }
 
 fn bin(alloc: Global, left: Expr, op: BinOp, right: Expr) -> Result<Expr, AllocError>
-    requires left { VariablesBelow 2 (expression_of left) }
-    requires right { VariablesBelow 2 (expression_of right) }
-    ensures { IfOk result (λ made. VariablesBelow 2 (expression_of made)) }
+    requires left { CanEvaluate 2 (expression_of left) }
+    requires right { CanEvaluate 2 (expression_of right) }
+    ensures { IfOk result (λ made. CanEvaluate 2 (expression_of made)) }
 {
     let left = Boxed::new(alloc, left)?;
     let right = Boxed::new(alloc, right)?;
@@ -36,10 +36,10 @@ fn bin(alloc: Global, left: Expr, op: BinOp, right: Expr) -> Result<Expr, AllocE
 }
 
 fn cond(alloc: Global, test: Expr, first: Expr, second: Expr) -> Result<Expr, AllocError>
-    requires test { VariablesBelow 2 (expression_of test) }
-    requires first { VariablesBelow 2 (expression_of first) }
-    requires second { VariablesBelow 2 (expression_of second) }
-    ensures { IfOk result (λ made. VariablesBelow 2 (expression_of made)) }
+    requires test { CanEvaluate 2 (expression_of test) }
+    requires first { CanEvaluate 2 (expression_of first) }
+    requires second { CanEvaluate 2 (expression_of second) }
+    ensures { IfOk result (λ made. CanEvaluate 2 (expression_of made)) }
 {
     let test = Boxed::new(alloc, test)?;
     let first = Boxed::new(alloc, first)?;

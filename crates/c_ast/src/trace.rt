@@ -15,6 +15,18 @@ pub struct Trace {
     pub result: i128,
 }
 
+/// What comes of a run that is followed for a number of steps, or up to a number of marks.
+#[derive(Debug, Drop)]
+pub enum Outcome {
+    /// The run ended, and this is its trace.
+    Returned(Trace),
+    /// A part of an evaluated expression, also one that C would skip, has a value of 2^100 or more
+    /// in size.
+    Wide,
+    /// Neither happened within the steps; or, where marks are limited, one mark more was to be passed.
+    CutOff,
+}
+
 /// The runs of two functions on one input: a value for each parameter.
 #[derive(Debug, Drop)]
 pub struct Pair {

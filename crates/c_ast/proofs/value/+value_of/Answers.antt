@@ -1,7 +1,7 @@
 use Rattle.std.proofs.Common.{rules, ◌∙◌, ap, to_z-of_z, FitsSigned}
 use Rattle.std.specs.Int.{w128}
-use Rattle.c_ast.specs.Narrow.{is_narrow, only_if}
-use Rattle.c_ast.proofs.Choosing.{narrow_value-Cond}
+use Rattle.c_ast.specs.FitsRun.{fits_run, only_if}
+use Rattle.c_ast.proofs.Choosing.{fitting_value-Cond}
 use Rattle.c_ast.proofs.value.+value_of.Goals as goal
 
 pub returns-in_ok-second-in-Cond-clause-value : goal.returns-in_ok-second-in-Cond-clause-value
@@ -11,9 +11,9 @@ returns-in_ok-second-in-Cond-clause-value t c =
     let second-fits : FitsSigned w128 c.in_ok-second-in-Cond.second = search rules in
     let choice-fits : FitsSigned w128 c.choice.result = search rules in
     let chosen = simp to_z-of_z at c.choice.ensures in
-    let narrowed = simp to_z-of_z at c.narrowed-in-Cond.ensures in
-    narrow_value-Cond _ _ _ _ c.args.environment.now _ _ _ _ c.in-Cond.is
+    let fitting = simp to_z-of_z at c.fitting-in-Cond.ensures in
+    fitting_value-Cond _ _ _ _ c.args.environment.now _ _ _ _ c.in-Cond.is
     (rw c.get-in-Cond.ensures at c.in_ok-test-in-Cond.ensures.value)
     (rw c.get-in-Cond-2.ensures at c.in_ok-first-in-Cond.ensures.value)
     (rw c.get-in-Cond-3.ensures at c.in_ok-second-in-Cond.ensures.value)
-    (narrowed ∙ ap (λ z. only_if (is_narrow z) z) chosen)
+    (fitting ∙ ap (λ z. only_if (fits_run z) z) chosen)

@@ -1,7 +1,7 @@
 use Rattle.std.proofs.Common.{◌+◌, arith, FitsSigned, to_z-of_z, rules}
 use Rattle.std.specs.Int.{w128}
 use Rattle.c_ast.proofs.Environments.{inputs_one}
-use Rattle.c_ast.proofs.interpreter.first_environment.Goals as goal
+use Rattle.c_ast.proofs.scope.first_environment.Goals as goal
 
 pub loop-x-preserved : goal.loop-x-preserved
 loop-x-preserved c =
