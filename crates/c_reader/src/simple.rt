@@ -1,4 +1,5 @@
-//! Assignments (ISO C11, 6.5.16), marks and conditions, by recursive descent. `room` is the greatest depth.
+//! Assignments (ISO C11, 6.5.16), marks and conditions, by recursive descent. `room` is the
+//! greatest depth.
 ghost use Rattle.std.specs.Prelude.{◌≡◌, IfOk};
 ghost use Rattle.c_ast.specs.RawTree.{Bin};
 ghost use Rattle.c_ast.specs.RawView.{raw_expression_of, raw_condition_of, raw_put_in_front};
@@ -7,14 +8,16 @@ ghost use Rattle.c_reader.specs.Statements.{update_of, step_of, updated};
 ghost use Rattle.c_reader.specs.ReadStatements.{step_at, change_at, simple_at, constant_at, mark_at, condition_at, start_at};
 
 use crate::ReadFault;
-use crate::declaration::{begins_type, name_at, read_declaration, read_shallow};
-use crate::sign::{Sign, behind_sign, expect, is_sign};
+use crate::declaration::{begins_type, read_declaration};
+use crate::expression::read_shallow;
+use crate::name::name_at;
+use crate::sign::{behind_sign, expect, expect_either};
 use c_ast::{BinOp, Name, RawCond, RawExpr, RawStmt};
-use c_tokens::{Kind, Token};
+use c_tokens::{Fixed, Kind, Token};
 use sqlite_items::Boxed;
 use std::alloc::{AllocError, Global};
 
-// The operation of `+=`, `-=` or `*=`.
+// The operation of `+=`, `-=`, `*=`, `/=` or `%=`.
 fn update_of(kind: &Kind) -> Option<BinOp>
     ensures { result ≡ update_of kind.now }
 {
@@ -22,6 +25,8 @@ fn update_of(kind: &Kind) -> Option<BinOp>
         Kind::PlusAssign => Some(BinOp::Add),
         Kind::MinusAssign => Some(BinOp::Sub),
         Kind::StarAssign => Some(BinOp::Mul),
+        Kind::SlashAssign => Some(BinOp::Div),
+        Kind::PercentAssign => Some(BinOp::Rem),
         _ => None,
     }
 }
@@ -57,7 +62,7 @@ fn updated(
 
 // `x++` and its like, where there is room.
 #[tactic(auto, unfolding(crate::specs::ReadStatements::step_at))]
-fn read_step<'a>(
+fn read_increment<'a>(
     alloc: Global,
     room: u32,
     name: &Name,
@@ -85,12 +90,13 @@ fn read_change<'a>(
     line: u32,
     tokens: &'a [Token],
 ) -> Result<(RawStmt, &'a [Token]), ReadFault>
-    ensures { Gives (λ x. (raw_put_in_front x.0, x.1.now)) result (change_at room name.now line tokens.now) }
+    ensures { Gives (λ x. (raw_put_in_front x.0, x.1.now)) result
+        (change_at room name.now line tokens.now) }
 {
     let Some((sign, others)) = tokens.split_first() else {
         return Err(ReadFault::Grammar);
     };
-    if is_sign(Sign::Assign, &sign.kind) {
+    if sign.kind.is(Fixed::Assign) {
         let (expr, after) = read_shallow(alloc, room, others)?;
         let name = name.copy()?;
         return Ok((RawStmt::Assign(name, line, expr), after));
@@ -103,12 +109,13 @@ fn read_change<'a>(
     let Some(op) = step_of(&sign.kind) else {
         return Err(ReadFault::Grammar);
     };
-    read_step(alloc, room, name, line, op, sign.line, others)
+    read_increment(alloc, room, name, line, op, sign.line, others)
 }
 
 /// An assignment, without the `;` behind it.
 ///
-/// simple: name ("=" | "+=" | "-=" | "*=") expr, name ("++" | "--"), or ("++" | "--") name
+/// simple: name ("=" | "+=" | "-=" | "*=" | "/=" | "%=") expr, name ("++" | "--"), or ("++" | "--")
+/// name
 #[tactic(auto, unfolding(crate::specs::ReadStatements::simple_at))]
 pub fn read_simple<'a>(
     alloc: Global,
@@ -132,7 +139,7 @@ pub fn read_simple<'a>(
     let Some((name, line, after)) = name_at(others) else {
         return Err(ReadFault::Grammar);
     };
-    read_step(alloc, room - 1, name, line, op, first.line, after)
+    read_increment(alloc, room - 1, name, line, op, first.line, after)
 }
 
 // The constant that stands first.
@@ -160,9 +167,9 @@ fn constant_at(tokens: &[Token]) -> Result<(u64, &[Token]), ReadFault>
 pub fn read_mark(tokens: &[Token]) -> Result<(u64, &[Token]), ReadFault>
     ensures { Gives (λ x. (x.0, x.1.now)) result (mark_at tokens.now) }
 {
-    let others = expect(Sign::OpenRound, tokens)?;
+    let others = expect(Fixed::OpenRound, tokens)?;
     let (number, others) = constant_at(others)?;
-    let after = expect(Sign::CloseRound, others)?;
+    let after = expect(Fixed::CloseRound, others)?;
     Ok((number, after))
 }
 
@@ -177,12 +184,12 @@ pub fn read_condition<'a>(
 ) -> Result<(RawCond, &'a [Token]), ReadFault>
     ensures { Gives (λ x. (raw_condition_of x.0, x.1.now)) result (condition_at room tokens.now) }
 {
-    let Some(others) = behind_sign(Sign::MarkWord, tokens) else {
+    let Some(others) = behind_sign(Fixed::MarkWord, tokens) else {
         let (cond, after) = read_shallow(alloc, room, tokens)?;
         return Ok((RawCond { mark: None, cond }, after));
     };
     let (number, others) = read_mark(others)?;
-    let others = expect(Sign::Ampersand, others)?;
+    let others = expect_either(Fixed::Amp, Fixed::AmpAmp, others)?;
     let (cond, after) = read_shallow(alloc, room, others)?;
     let mark = Some(number);
     Ok((RawCond { mark, cond }, after))
