@@ -10,7 +10,7 @@ use Rattle.c_reader.specs.ReadExpressions.{◌>>=◌}
 use Rattle.c_reader.specs.Declarations.{Statement, SpellsOptional}
 use Rattle.c_reader.specs.Statements.{SpellsStatement, SpellsEntries, SpellsSimple, SpellsStart, SpellsCondition, ends_open}
 use Rattle.c_reader.specs.Depth.{condition_depth, statements_depth}
-use Rattle.c_reader.specs.Signs.{behind_sign, begins}
+use Rattle.c_reader.specs.Fronts.{behind_sign, begins}
 use Rattle.c_reader.specs.ReadDeclarations.{Reads, shallow_at, begins_type, declaration_at, optional, unless}
 use Rattle.c_reader.specs.ReadStatements.{simple_at, condition_at, start_at, if_at, while_at, do_at, head_at, for_at, ended, entry_at, entries_by, entries_within, entries_at}
 use Rattle.c_reader.proofs.Reading.{stepped, behind_sign-found, begins-here, begins-none, SignFirst, given, append_parts, cons_parts}

@@ -12,7 +12,7 @@ use Rattle.c_reader.specs.Expressions.{EndsExpression}
 use Rattle.c_reader.specs.Declarations.{Statement, SpellsType, SpellsName, SpellsListed, SpellsOptional, SpellsInitialiser, SpellsDeclarator, SpellsDeclaration, SpellsParameter, SpellsParameters}
 use Rattle.c_reader.specs.Depth.{optional_depth, declarators_depth, statements_depth}
 use Rattle.c_tokens.specs.Fixed.{is_kind_of}
-use Rattle.c_reader.specs.Signs.{behind_sign, begins, skipped}
+use Rattle.c_reader.specs.Fronts.{behind_sign, begins, skipped}
 use Rattle.c_reader.specs.ReadDeclarations.{Reads, name_by, name_at, behind_type, shallow_at, declarator_at, declaration_at, parameter_at, parameters_by, parameters_at, optional, listed_by, listed_within, listed_at}
 use Rattle.c_reader.proofs.Reading.{step, behind_sign-here, behind_sign-other, test-from_HasSign}
 use Rattle.c_reader.proofs.DeclarationSoundness.{SpellsShallowDeclarator}

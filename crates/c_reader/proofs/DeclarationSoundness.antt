@@ -12,7 +12,7 @@ use Rattle.c_reader.specs.Expressions.{SpellsExpression, expression_depth}
 use Rattle.c_reader.specs.Declarations as spelled
 use Rattle.c_reader.specs.Declarations.{Statement, SpellsType, SpellsName, SpellsListed, SpellsOptional}
 use Rattle.c_tokens.specs.Fixed.{is_kind_of}
-use Rattle.c_reader.specs.Signs.{behind_sign, begins, skipped}
+use Rattle.c_reader.specs.Fronts.{behind_sign, begins, skipped}
 use Rattle.c_reader.specs.ReadDeclarations.{Reads, name_by, name_at, behind_type, shallow_at, declarator_at, declaration_at, parameter_at, parameters_by, parameters_at, optional, unless, listed_by, listed_within, listed_at}
 use Rattle.c_reader.proofs.Reading.{stepped, behind_sign-found, SignFirst, HasSign, HasSign-from_test, Front, IsSound, given, in_front, append_parts}
 use Rattle.c_reader.proofs.Shallow.{shallow-sound}

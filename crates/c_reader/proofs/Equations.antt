@@ -5,7 +5,7 @@ use Rattle.c_ast.specs.declared.expr.BinOp.{BinOp}
 use Rattle.c_tokens.specs.declared.token.Token.{Token}
 use Rattle.c_reader.specs.ReadExpressions.{Reader, Further, NextOperator, ◌>>=◌, Reading, next_operator, operand_by, joined_by, chosen_by, level_by, operand_within, further_within, choice_within, operand_at, further_at, level_at, choice_at, expression_at}
 use Rattle.c_tokens.specs.declared.fixed.Fixed.TheVariants as fixed
-use Rattle.c_reader.specs.Signs.{behind_sign}
+use Rattle.c_reader.specs.Fronts.{behind_sign}
 use Rattle.c_reader.proofs.Reading.{behind_sign-found, SignFirst-short}
 use Rattle.c_reader.proofs.Parts.{step-same, IsNext-from_next}
 use Rattle.c_reader.proofs.Bounds.{level_within, whole_within, IsShort-all, level-short, whole-short, IsNext-short}

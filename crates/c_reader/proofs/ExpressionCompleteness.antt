@@ -12,7 +12,7 @@ use Rattle.c_reader.specs.Expressions.{unary_of, operator_of, SpellsAt, named, c
 use Rattle.c_reader.specs.ReadExpressions.{◌>>=◌, Reading, next_operator, operand_at, further_at, level_at, choice_at, expression_at}
 use Rattle.c_tokens.specs.declared.fixed.Fixed.TheVariants as fixed
 use Rattle.c_tokens.specs.Fixed.{is_kind_of}
-use Rattle.c_reader.specs.Signs.{behind_sign}
+use Rattle.c_reader.specs.Fronts.{behind_sign}
 use Rattle.c_reader.proofs.Parts.{Stops, under_sign}
 use Rattle.c_reader.proofs.ExpressionSoundness.{operator-level}
 use Rattle.c_reader.proofs.Readings.{operand_at-name, operand_at-constant, operand_at-bracket, closed, operand_at-sign, level_at-operand, operation_from, further_at-next, further_at-none, expression_at-level, choice_to, choice_from, choice_at-asked, choice_at-none}

@@ -9,7 +9,7 @@ use Rattle.c_reader.specs.Expressions as spelled
 use Rattle.c_reader.specs.Expressions.{operator_of, SpellsAt, alone, joined, SpellsExpression, EndsExpression}
 use Rattle.c_reader.specs.ReadExpressions.{operand_within, further_within, choice_within, operand_at, expression_at}
 use Rattle.c_tokens.specs.declared.fixed.Fixed.TheVariants as fixed
-use Rattle.c_reader.specs.Signs.{behind_sign}
+use Rattle.c_reader.specs.Fronts.{behind_sign}
 use Rattle.c_reader.proofs.Equations.{whole_within-at}
 use Rattle.c_reader.proofs.Parts.{Stops, IsNext, OperandIs, OperandIs-from_operand, named, constant, bracketed, signed, JoinedIs, JoinedIs-from_joined, ChosenIs, ChosenIs-from_chosen, ends, goes_on, LevelIs-from_level, WholeIs-from_whole}
 use Rattle.c_reader.proofs.Bounds.{level_within, whole_within}

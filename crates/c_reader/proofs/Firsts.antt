@@ -13,7 +13,7 @@ use Rattle.c_reader.specs.Expressions.{SpellsAt, SpellsExpression, EndsExpressio
 use Rattle.c_reader.specs.Declarations.{Statement, SpellsType, SpellsName, SpellsListed}
 use Rattle.c_reader.specs.Statements.{SpellsStatement, SpellsSimple, SpellsMark, step_of}
 use Rattle.c_tokens.specs.Fixed.{is_kind_of}
-use Rattle.c_reader.specs.Signs.{behind_sign, begins, skipped, is_either}
+use Rattle.c_reader.specs.Fronts.{behind_sign, begins, skipped, is_either}
 use Rattle.c_reader.proofs.Reading.{behind_sign-other}
 
 -- The first token passes the test.

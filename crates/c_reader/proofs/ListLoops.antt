@@ -5,7 +5,7 @@ use Rattle.c_tokens.specs.declared.token.Token.{Token}
 use Rattle.c_tokens.specs.declared.fixed.Fixed.TheVariants as fixed
 use Rattle.c_reader.specs.Declarations.{Statement}
 use Rattle.c_reader.specs.ReadExpressions.{◌>>=◌}
-use Rattle.c_reader.specs.Signs.{behind_sign}
+use Rattle.c_reader.specs.Fronts.{behind_sign}
 use Rattle.c_reader.specs.ReadDeclarations.{Reads, listed_by, listed_within, listed_at}
 use Rattle.c_reader.specs.ReadStatements.{entry_at, entries_at, entries_by, entries_within}
 use Rattle.c_reader.proofs.Reading.{step, IsSound, Front-shorter, SignFirst-short, behind_sign-found}

@@ -12,7 +12,7 @@ use Rattle.c_tokens.specs.declared.token.Token.{Token}
 use Rattle.c_reader.specs.Expressions.{unary_of, operator_of}
 use Rattle.c_reader.specs.ReadExpressions.{Reader, Further, NextOperator, ◌>>=◌, Reading, next_operator, operand_by, joined_by, chosen_by, level_by, whole_by}
 use Rattle.c_tokens.specs.declared.fixed.Fixed.TheVariants as fixed
-use Rattle.c_reader.specs.Signs.{behind_sign}
+use Rattle.c_reader.specs.Fronts.{behind_sign}
 use Rattle.c_reader.proofs.Reading.{stepped, SignFirst, behind_sign-found}
 
 -- Two readings of equal steps are equal.

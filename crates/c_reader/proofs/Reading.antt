@@ -1,5 +1,5 @@
 -- Steps of reading: what follows from one that found something, and what makes one find it.
-use Rattle.std.proofs.Common.{◌≡◌, ◌+◌, ◌≤◌, Bool, true, false, ◌||◌, List, [], ◌∷◌, ◌++◌, length, length-append, Option, Some, None, if◌then◌else◌, refl, sym, ap, ◌∙◌, append_assoc, inl, inr, ◌⊎◌, arith}
+use Rattle.std.proofs.Common.{◌≡◌, ℕ, zero, suc, ◌+◌, ◌≤◌, Bool, true, false, ◌||◌, List, [], ◌∷◌, ◌++◌, length, length-append, Option, Some, None, if◌then◌else◌, refl, sym, ap, ◌∙◌, append_assoc, inl, inr, ◌⊎◌, arith}
 use Rattle.c_tokens.specs.declared.kind.Kind.{Kind}
 use Rattle.c_tokens.specs.declared.token.Token.{Token}
 use Rattle.c_tokens.specs.declared.fixed.Fixed.{Fixed}
@@ -7,7 +7,7 @@ use Rattle.c_reader.specs.ReadExpressions.{◌>>=◌}
 use Rattle.c_reader.specs.ReadDeclarations.{Reads}
 use Rattle.c_tokens.specs.Fixed.{kind_of, is_kind_of}
 use Rattle.c_tokens.proofs.Laws.{kinds-one}
-use Rattle.c_reader.specs.Signs.{behind_sign, begins, is_either, behind_either}
+use Rattle.c_reader.specs.Fronts.{first_of, lowered, behind_sign, begins, is_either, behind_either}
 
 -- a step that finds this goes on from it
 pub step : {A B : Type 0} {m : Option A} (f : A → Option B) {r : Option B} (a : A) → m ≡ Some a → f a ≡ r → (m >>= f) ≡ r
@@ -174,3 +174,22 @@ begins-none s (first ∷ others) is = begins-by s first others (is_kind_of s fir
 -- a sign that stands first
 pub begins-here : (s : Fixed) (tokens others : List Token) → SignFirst s tokens others → begins s tokens ≡ true
 begins-here s tokens others at = ap (begins s) at.parts ∙ test-from_HasSign s at.token.kind at.has
+
+-- ---- the first token, and the room below a tree
+
+pub first_of-is : (tokens : List Token) (first : Token) (others : List Token) → first_of tokens ≡ Some (first, others)
+    → tokens ≡ first ∷ others
+first_of-is [] first others is = absurd cc
+first_of-is (token ∷ more) first others is = ap (λ (x : Token × List Token). x.0 ∷ x.1) (given is)
+
+pub first_of-none : (tokens : List Token) → first_of tokens ≡ None → tokens ≡ []
+first_of-none [] none = refl
+first_of-none (token ∷ more) none = absurd cc
+
+pub lowered-is : (room inside : ℕ) → lowered room ≡ Some inside → room ≡ suc inside
+lowered-is zero inside is = absurd cc
+lowered-is (suc room) inside is = ap suc (given is)
+
+pub lowered-none : (room : ℕ) → lowered room ≡ None → room ≡ 0
+lowered-none zero none = refl
+lowered-none (suc room) none = absurd cc

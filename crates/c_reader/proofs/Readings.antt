@@ -11,7 +11,7 @@ use Rattle.c_tokens.specs.declared.token.Token.{Token}
 use Rattle.c_reader.specs.Expressions.{unary_of}
 use Rattle.c_reader.specs.ReadExpressions.{NextOperator, ◌>>=◌, Reading, next_operator, operand_by, joined_by, chosen_by, operand_at, further_at, level_at, choice_at, expression_at}
 use Rattle.c_tokens.specs.declared.fixed.Fixed.TheVariants as fixed
-use Rattle.c_reader.specs.Signs.{behind_sign}
+use Rattle.c_reader.specs.Fronts.{behind_sign}
 use Rattle.c_reader.proofs.Parts.{under_sign}
 use Rattle.c_reader.proofs.Equations.{operand_at-cons, level_at-is, expression_at-is, further_at-is, choice_at-is}
 

@@ -11,7 +11,7 @@ use Rattle.c_reader.specs.Faults.{Refuses}
 use Rattle.c_reader.specs.Expressions.{unary_of, expression_depth}
 use Rattle.c_reader.specs.ReadExpressions.{◌>>=◌, Reading, next_operator, operand_at, further_at, level_at, choice_at, expression_at, IsDeeper}
 use Rattle.c_tokens.specs.declared.fixed.Fixed.TheVariants as fixed
-use Rattle.c_reader.specs.Signs.{behind_sign}
+use Rattle.c_reader.specs.Fronts.{behind_sign}
 use Rattle.c_reader.proofs.Reading.{stepped}
 use Rattle.c_reader.proofs.Equations.{level_at-is, expression_at-is}
 use Rattle.c_reader.proofs.Depths.{depth-positive, further_at-depth, choice_at-depth}

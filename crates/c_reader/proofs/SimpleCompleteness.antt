@@ -1,6 +1,5 @@
 -- What spells an assignment, a mark or a condition is read as it.
-use Rattle.std.proofs.Common.{◌≡◌, ℕ, zero, suc, pos, ◌≤◌, ◌-◌, true, false, nat_le, List, ◌∷◌, ◌++◌, Some, None, refl, ap, ◌∙◌, arith}
-use Rattle.std.proofs.lemmas.Bool.Decides.{nat_tests}
+use Rattle.std.proofs.Common.{◌≡◌, ℕ, zero, suc, pos, ◌≤◌, ◌-◌, false, List, ◌∷◌, ◌++◌, Some, None, refl, ap, ◌∙◌, arith}
 use Rattle.c_ast.specs.declared.expr.BinOp.{BinOp}
 use Rattle.c_ast.specs.RawTree as tree
 use Rattle.c_ast.specs.RawTree.{RawExpression, RawCondition}
@@ -15,7 +14,7 @@ use Rattle.c_reader.specs.Statements.{SpellsSimple, SpellsMark, SpellsCondition,
 use Rattle.c_reader.specs.Depth.{statements_depth}
 use Rattle.c_tokens.specs.Fixed.{is_kind_of}
 use Rattle.c_reader.specs.ReadDeclarations.{name_by, name_at}
-use Rattle.c_reader.specs.ReadStatements.{step_at, update_by, change_at, simple_by, simple_at, constant_by, mark_at, condition_by, condition_at}
+use Rattle.c_reader.specs.ReadStatements.{increment_at, update_by, change_at, simple_by, simple_at, constant_by, mark_at, condition_by, condition_at}
 use Rattle.c_reader.proofs.Reading.{step, behind_sign-here, behind_either-here, test-from_HasSign}
 use Rattle.c_reader.proofs.Shallow.{shallow-complete}
 use Rattle.c_reader.proofs.Depths.{depth-positive}
@@ -36,16 +35,17 @@ step-no_update _ op is = absurd cc
 
 -- a sign before the name
 before-by : (room : ℕ) (kind : Kind) (line : ℕ) (op : BinOp) (others : List Token) → step_of kind ≡ Some op
-    → simple_by room kind line others ≡ (name_at others >>= λ x. step_at room x.0.name x.0.line op line x.1)
+    → simple_by room kind line others ≡ (name_at others >>= λ x. increment_at room x.0.name x.0.line op line x.1)
 before-by room (k.Word name) line op others is = absurd cc
 before-by room kind line op others is =
-    ap (λ o. o >>= λ sign_op. name_at others >>= λ x. step_at room x.0.name x.0.line sign_op line x.1) is
+    ap (λ o. o >>= λ sign_op. name_at others >>= λ x. increment_at room x.0.name x.0.line sign_op line x.1) is
 
-step_at-here : (room : ℕ) (name : List ℕ) (line : ℕ) (op : BinOp) (at : ℕ) (after : List Token) → 2 ≤ room
-    → step_at room name line op at after ≡ Some (updated name line op at (tree.Num (pos 1)), after)
-unfolding step_at
-step_at-here room name line op at after two =
-    let test : nat_le 2 room ≡ true = grind (arith, nat_tests) in rw test refl
+increment_at-here : (room : ℕ) (name : List ℕ) (line : ℕ) (op : BinOp) (at : ℕ) (after : List Token) → 2 ≤ room
+    → increment_at room name line op at after ≡ Some (updated name line op at (tree.Num (pos 1)), after)
+unfolding increment_at
+increment_at-here zero name line op at after two = absurd (omega (arith, two))
+increment_at-here (suc zero) name line op at after two = absurd (omega (arith, two))
+increment_at-here (suc (suc room)) name line op at after two = refl
 
 change-assign : (room : ℕ) (name : List ℕ) (line : ℕ) (e : RawExpression) (first : Token) (us after : List Token)
     → first.kind ≡ k.Assign → SpellsExpression e us → expression_depth e ≤ room → EndsExpression after
@@ -72,7 +72,7 @@ unfolding change_at
 change-step room name line op first after is two =
     rw (step-no_assign first.kind op is)
     (ap (λ o. update_by room name line o (step_of first.kind) first.line after) (step-no_update first.kind op is)
-    ∙ step (λ x. step_at room name line x first.line after) op is (step_at-here room name line op first.line after two))
+    ∙ step (λ x. increment_at room name line x first.line after) op is (increment_at-here room name line op first.line after two))
 
 pub simple-complete : (s : Statement) (us after : List Token) (room : ℕ) → SpellsSimple s us
     → statements_depth (s tree.Nil) ≤ room → EndsExpression after → simple_at room (us ++ after) ≡ Some (s, after)
@@ -94,9 +94,9 @@ simple-complete _ _ after (suc room) (SpellsSimple.step_behind name op word firs
     ∙ change-step room name word.line op first after is (omega (arith, low))
 simple-complete _ _ after (suc room) (SpellsSimple.step_before name op word first named is) low ends =
     before-by room first.kind first.line op (word ∷ after) is
-    ∙ step (λ x. step_at room x.0.name x.0.line op first.line x.1) (record { name = name; line = word.line }, after)
+    ∙ step (λ x. increment_at room x.0.name x.0.line op first.line x.1) (record { name = name; line = word.line }, after)
     (ap (λ kind. name_by kind word.line after) named)
-    (step_at-here room name word.line op first.line after (omega (arith, low)))
+    (increment_at-here room name word.line op first.line after (omega (arith, low)))
 
 -- ---- marks and conditions
 

@@ -1,6 +1,5 @@
 -- What is read as a statement is spelled so, and is no deeper than its room.
-use Rattle.std.proofs.Common.{◌≡◌, ℕ, zero, suc, pos, ◌≤◌, ◌-◌, Bool, true, false, nat_le, if◌then◌else◌, List, [], ◌∷◌, ◌++◌, Option, Some, None, refl, ap, subst, ◌∙◌, arith}
-use Rattle.std.proofs.lemmas.Bool.Decides.{nat_tests}
+use Rattle.std.proofs.Common.{◌≡◌, ℕ, zero, suc, pos, ◌≤◌, ◌-◌, Bool, true, false, if◌then◌else◌, List, [], ◌∷◌, ◌++◌, Option, Some, None, refl, ap, subst, ◌∙◌, arith}
 use Rattle.c_ast.specs.declared.expr.BinOp.{BinOp}
 use Rattle.c_ast.specs.RawTree as tree
 use Rattle.c_ast.specs.RawTree.{RawCondition}
@@ -15,9 +14,9 @@ use Rattle.c_reader.specs.Declarations.{Statement, SpellsName}
 use Rattle.c_reader.specs.Statements as spelled
 use Rattle.c_reader.specs.Statements.{update_of, step_of, updated}
 use Rattle.c_tokens.specs.Fixed.{is_kind_of}
-use Rattle.c_reader.specs.Signs.{behind_sign, behind_either}
+use Rattle.c_reader.specs.Fronts.{behind_sign, behind_either}
 use Rattle.c_reader.specs.ReadDeclarations.{shallow_at, name_at, begins_type, declaration_at}
-use Rattle.c_reader.specs.ReadStatements.{step_at, update_by, change_at, simple_by, simple_at, constant_by, constant_at, mark_at, condition_by, condition_at, start_at}
+use Rattle.c_reader.specs.ReadStatements.{increment_at, update_by, change_at, simple_by, simple_at, constant_by, constant_at, mark_at, condition_by, condition_at, start_at}
 use Rattle.c_reader.proofs.Reading.{stepped, behind_sign-found, behind_either-found, HasSign-from_test, Front, IsSound, given, append_parts, cons_parts}
 use Rattle.c_reader.proofs.Shallow.{shallow-sound}
 use Rattle.c_reader.proofs.Depths.{depth-positive}
@@ -26,19 +25,13 @@ use Rattle.c_reader.proofs.DeclarationSoundness.{SpellsWithin, name_at-sound, de
 -- ---- assignments
 
 -- `x + 1` is assigned, and there is room for it.
-stepped_at : (room : ℕ) (name : List ℕ) (line : ℕ) (op : BinOp) (at : ℕ) (tokens : List Token)
-    (read : Statement × List Token) (test : Bool) → nat_le 2 room ≡ test
-    → (if test then Some (updated name line op at (tree.Num (pos 1)), tokens) else None) ≡ Some read
+increment_at-found : (room : ℕ) (name : List ℕ) (line : ℕ) (op : BinOp) (at : ℕ) (tokens : List Token)
+    (read : Statement × List Token) → increment_at room name line op at tokens ≡ Some read
     → ((updated name line op at (tree.Num (pos 1)), tokens) ≡ read) × (2 ≤ room)
-stepped_at room name line op at tokens read true is found = (given found, grind (arith, nat_tests))
-stepped_at room name line op at tokens read false is found = absurd cc
-
-step_at-found : (room : ℕ) (name : List ℕ) (line : ℕ) (op : BinOp) (at : ℕ) (tokens : List Token)
-    (read : Statement × List Token) → step_at room name line op at tokens ≡ Some read
-    → ((updated name line op at (tree.Num (pos 1)), tokens) ≡ read) × (2 ≤ room)
-unfolding step_at
-step_at-found room name line op at tokens read found =
-    stepped_at room name line op at tokens read (nat_le 2 room) refl found
+unfolding increment_at
+increment_at-found zero name line op at tokens read found = absurd cc
+increment_at-found (suc zero) name line op at tokens read found = absurd cc
+increment_at-found (suc (suc room)) name line op at tokens read found = (given found, omega arith)
 
 abbrev SimpleFirst : ℕ → List Token → Statement × List Token → Type 0
 SimpleFirst room tokens read = Front (SpellsWithin spelled.SpellsSimple room) tokens read.0 read.1
@@ -54,13 +47,13 @@ before-by room first others after _ op _ (SpellsName.name name word named) parts
 
 before-sound : (room : ℕ) (first : Token) (others : List Token) (kind : Kind) (read : Statement × List Token)
     → first.kind ≡ kind
-    → (step_of kind >>= λ op. name_at others >>= λ x. step_at room x.0.name x.0.line op first.line x.1) ≡ Some read
+    → (step_of kind >>= λ op. name_at others >>= λ x. increment_at room x.0.name x.0.line op first.line x.1) ≡ Some read
     → SimpleFirst (suc room) (first ∷ others) read
 before-sound room first others kind read is found =
     let op = stepped (step_of kind) _ read found in
     let x = stepped (name_at others) _ read op.2 in
     let name = name_at-sound others x.0 x.1 in
-    let both = step_at-found room x.0.0.name x.0.0.line op.0 first.line x.0.1 read x.2 in
+    let both = increment_at-found room x.0.0.name x.0.0.line op.0 first.line x.0.1 read x.2 in
     subst (SimpleFirst (suc room) (first ∷ others)) both.0
     (before-by room first others x.0.1 name.front op.0 x.0.0 name.spells name.parts (ap step_of is ∙ op.1) both.1)
 
@@ -80,7 +73,7 @@ updated-sound room name word first others (Some op) step read named is_update is
       );
     })
 updated-sound room name word first others None (Some op) read named is_update is_step found =
-    let both = step_at-found room name word.line op first.line others read found in
+    let both = increment_at-found room name word.line op first.line others read found in
     subst (SimpleFirst (suc room) (word ∷ first ∷ others)) both.0 (record {
       front = word ∷ first ∷ [];
       parts = refl;

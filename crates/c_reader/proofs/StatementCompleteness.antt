@@ -14,7 +14,7 @@ use Rattle.c_reader.specs.Declarations.{Statement, SpellsOptional, SpellsDeclara
 use Rattle.c_reader.specs.Statements.{SpellsStatement, SpellsEntries, SpellsSimple, SpellsMark, SpellsCondition, SpellsStart, ends_open}
 use Rattle.c_reader.specs.Depth.{condition_depth, statements_depth}
 use Rattle.c_tokens.specs.Fixed.{is_kind_of}
-use Rattle.c_reader.specs.Signs.{begins}
+use Rattle.c_reader.specs.Fronts.{begins}
 use Rattle.c_reader.specs.ReadDeclarations.{Reads, begins_type, declaration_at, optional, unless}
 use Rattle.c_reader.specs.ReadStatements.{simple_at, condition_at, start_at, if_at, while_at, do_at, head_at, for_at, ended, entry_at, entries_within, entries_by, entries_at, block_at, statement_by, statement_at}
 use Rattle.c_reader.proofs.Reading.{step, behind_sign-here, test-from_HasSign, HasSign}

@@ -3,7 +3,7 @@ use Rattle.std.proofs.Common.{◌≡◌, ℕ, zero, suc, ◌<◌, ◌≤◌, max
 use Rattle.std.specs.Prelude.{option_to_list, IsErrOf, Result, Err}
 use Rattle.std.proofs.lemmas.Bool.{cases_lt}
 use Rattle.c_reader.specs.declared.fault.ReadFault.{ReadFault}
-use Rattle.c_reader.specs.declared.fault.ReadFault.TheVariants.{Deep, Grammar, Memory}
+use Rattle.c_reader.specs.declared.fault.ReadFault.TheVariants.{Grammar}
 use Rattle.c_reader.specs.Faults.{Refuses}
 use Rattle.c_ast.specs.declared.func.Var.{Var}
 use Rattle.c_ast.specs.RawTree.{RawFunction}
@@ -15,7 +15,7 @@ use Rattle.c_reader.specs.ReadExpressions.{◌>>=◌}
 use Rattle.c_reader.specs.Declarations.{SpellsOptional, SpellsType, SpellsName}
 use Rattle.c_reader.specs.Units.{AreQualifiers, SpellsFunction, SpellsMarkDeclaration, SpellsUnit}
 use Rattle.c_reader.specs.Depth.{statements_depth, unit_depth}
-use Rattle.c_reader.specs.Signs.{begins, is_either}
+use Rattle.c_reader.specs.Fronts.{begins, is_either}
 use Rattle.c_reader.specs.ReadDeclarations.{name_at, behind_type}
 use Rattle.c_reader.specs.ReadStatements.{entries_at}
 use Rattle.c_reader.specs.ReadUnits.{unqualified, mark_declaration_at, function_at, item_by, item_at, items_within, unit_at}

@@ -8,7 +8,7 @@ use Rattle.c_tokens.specs.declared.fixed.Fixed.TheVariants as fixed
 use Rattle.c_reader.specs.Declarations.{SpellsType, SpellsName}
 use Rattle.c_reader.specs.Units.{AreQualifiers, SpellsFunction, SpellsMarkDeclaration, SpellsUnit}
 use Rattle.c_reader.specs.Depth.{statements_depth, unit_depth}
-use Rattle.c_reader.specs.Signs.{behind_sign, begins, is_either}
+use Rattle.c_reader.specs.Fronts.{behind_sign, begins, is_either}
 use Rattle.c_reader.specs.ReadDeclarations.{unless, name_at, behind_type, parameters_at}
 use Rattle.c_reader.specs.ReadStatements.{entries_at, statement_at}
 use Rattle.c_reader.specs.ReadUnits.{unqualified, mark_declaration_at, function_at, item_by, item_at, items_within, unit_at}

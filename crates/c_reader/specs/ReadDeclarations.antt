@@ -11,7 +11,7 @@ use Rattle.c_tokens.specs.declared.fixed.Fixed.TheVariants as fixed
 use Rattle.c_reader.specs.Expressions.{expression_depth}
 use Rattle.c_reader.specs.ReadExpressions.{◌>>=◌, expression_at}
 use Rattle.c_reader.specs.Declarations.{Statement}
-use Rattle.c_reader.specs.Signs.{behind_sign, begins, skipped}
+use Rattle.c_reader.specs.Fronts.{first_of, lowered, behind_sign, begins, skipped}
 
 -- what is read as the first tokens, and the tokens behind it
 abbrev pub Reads : Type 0 → Type 0
@@ -38,8 +38,7 @@ name_by _ line others = None
 
 -- the name that stands first
 abbrev pub name_at : List Token → Reads Var
-name_at [] = None
-name_at (first ∷ others) = name_by first.kind first.line others
+name_at tokens = first_of tokens >>= λ x. name_by x.0.kind x.0.line x.1
 
 -- whether a type stands first
 abbrev pub begins_type : List Token → Bool
@@ -74,9 +73,9 @@ declarator_at room tokens =
 
 -- a declaration, where its depth is at most this
 unfoldable pub declaration_at : ℕ → List Token → Reads Statement
-declaration_at zero tokens = None
-declaration_at (suc room) tokens =
-    behind_type tokens >>= λ others. listed_at (declarator_at room) others >>= λ x. Some (tree.Declare x.0, x.1)
+declaration_at room tokens =
+    lowered room >>= λ inside. behind_type tokens >>= λ others.
+    listed_at (declarator_at inside) others >>= λ x. Some (tree.Declare x.0, x.1)
 
 -- a parameter
 unfoldable pub parameter_at : List Token → Reads Var

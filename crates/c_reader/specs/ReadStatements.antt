@@ -1,6 +1,6 @@
 -- Statements at the front of tokens, by recursive descent. `room` is the greatest depth of what is read. Only proofs and
 -- the contracts of private functions cite these: `Statements` says which tokens spell a statement.
-use Rattle.std.specs.Prelude.{ℕ, zero, suc, pos, ◌-◌, nat_le, if◌then◌else◌, List, [], ◌∷◌, length, Option, Some, None}
+use Rattle.std.specs.Prelude.{ℕ, zero, suc, pos, ◌-◌, if◌then◌else◌, List, [], ◌∷◌, length, Option, Some, None}
 use Rattle.c_ast.specs.declared.expr.BinOp.{BinOp}
 use Rattle.c_ast.specs.RawTree as tree
 use Rattle.c_ast.specs.RawTree.{RawCondition}
@@ -13,39 +13,42 @@ use Rattle.c_reader.specs.ReadExpressions.{◌>>=◌}
 use Rattle.c_reader.specs.Declarations.{Statement}
 use Rattle.c_reader.specs.Statements.{update_of, step_of, updated}
 use Rattle.c_tokens.specs.Fixed.{is_kind_of}
-use Rattle.c_reader.specs.Signs.{behind_sign, begins, behind_either}
+use Rattle.c_reader.specs.Fronts.{first_of, lowered, behind_sign, begins, behind_either}
 use Rattle.c_reader.specs.ReadDeclarations.{Reads, shallow_at, optional, unless, name_at, begins_type, declaration_at}
 
 -- `x++` and its like, where the depth of `x + 1` is at most this
-unfoldable pub step_at : ℕ → List ℕ → ℕ → BinOp → ℕ → List Token → Reads Statement
-step_at room name line op operator_line tokens =
-    if nat_le 2 room then Some (updated name line op operator_line (tree.Num (pos 1)), tokens) else None
+unfoldable pub increment_at : ℕ → List ℕ → ℕ → BinOp → ℕ → List Token → Reads Statement
+increment_at room name line op operator_line tokens =
+    lowered room >>= λ inside. lowered inside >>= λ operands.
+    Some (updated name line op operator_line (tree.Num (pos 1)), tokens)
 
 -- the statement that a sign with an operation makes of the name before it
 abbrev pub update_by : ℕ → List ℕ → ℕ → Option BinOp → Option BinOp → ℕ → List Token → Reads Statement
 update_by room name line (Some op) step operator_line tokens =
     shallow_at (room - 1) tokens >>= λ x. Some (updated name line op operator_line x.0, x.1)
 update_by room name line None step operator_line tokens =
-    step >>= λ op. step_at room name line op operator_line tokens
+    step >>= λ op. increment_at room name line op operator_line tokens
+
+-- the rest of an assignment behind its name, by its first token
+abbrev pub change_by : ℕ → List ℕ → ℕ → Token → List Token → Reads Statement
+change_by room name line first others =
+    if is_kind_of fixed.Assign first.kind then (shallow_at room others >>= λ x. Some (tree.Assign name line x.0, x.1))
+    else update_by room name line (update_of first.kind) (step_of first.kind) first.line others
 
 -- the rest of an assignment behind its name, where its expression has at most this depth
 unfoldable pub change_at : ℕ → List ℕ → ℕ → List Token → Reads Statement
-change_at room name line [] = None
-change_at room name line (first ∷ others) =
-    if is_kind_of fixed.Assign first.kind then (shallow_at room others >>= λ x. Some (tree.Assign name line x.0, x.1))
-    else update_by room name line (update_of first.kind) (step_of first.kind) first.line others
+change_at room name line tokens = first_of tokens >>= λ x. change_by room name line x.0 x.1
 
 -- an assignment by the kind and the line of its first token
 abbrev pub simple_by : ℕ → Kind → ℕ → List Token → Reads Statement
 simple_by room (k.Word name) line others = change_at room name line others
 simple_by room kind line others =
-    step_of kind >>= λ op. name_at others >>= λ x. step_at room x.0.name x.0.line op line x.1
+    step_of kind >>= λ op. name_at others >>= λ x. increment_at room x.0.name x.0.line op line x.1
 
 -- an assignment, where its depth is at most this
 unfoldable pub simple_at : ℕ → List Token → Reads Statement
-simple_at zero tokens = None
-simple_at (suc room) [] = None
-simple_at (suc room) (first ∷ others) = simple_by room first.kind first.line others
+simple_at room tokens =
+    lowered room >>= λ inside. first_of tokens >>= λ x. simple_by inside x.0.kind x.0.line x.1
 
 -- the constant of this kind of token, and the tokens behind it
 abbrev pub constant_by : Kind → List Token → Reads ℕ
@@ -54,8 +57,7 @@ constant_by _ others = None
 
 -- the constant that stands first, and the tokens behind it
 abbrev pub constant_at : List Token → Reads ℕ
-constant_at [] = None
-constant_at (first ∷ others) = constant_by first.kind others
+constant_at tokens = first_of tokens >>= λ x. constant_by x.0.kind x.1
 
 -- the number of a mark behind its word, in parentheses
 unfoldable pub mark_at : List Token → Reads ℕ

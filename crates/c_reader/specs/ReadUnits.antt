@@ -6,14 +6,15 @@ use Rattle.c_ast.specs.RawView.{raw_joined}
 use Rattle.c_tokens.specs.declared.token.Token.{Token}
 use Rattle.c_tokens.specs.declared.fixed.Fixed.TheVariants as fixed
 use Rattle.c_reader.specs.ReadExpressions.{◌>>=◌}
-use Rattle.c_reader.specs.Signs.{behind_sign, begins, is_either}
+use Rattle.c_reader.specs.Fronts.{behind_sign, begins, is_either}
 use Rattle.c_reader.specs.ReadDeclarations.{Reads, unless, name_at, behind_type, parameters_at}
 use Rattle.c_reader.specs.ReadStatements.{entries_at, statement_at}
 
 -- the tokens without the qualifiers at the front
 abbrev pub unqualified : List Token → List Token
 unqualified [] = []
-unqualified (first ∷ others) = if is_either fixed.Extern fixed.Static first.kind then unqualified others else first ∷ others
+unqualified (first ∷ others) =
+    if is_either fixed.Extern fixed.Static first.kind then unqualified others else first ∷ others
 
 -- the rest of a declaration of `__mark`, behind that word
 unfoldable pub mark_declaration_at : List Token → Option (List Token)

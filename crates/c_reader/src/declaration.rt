@@ -4,13 +4,13 @@ ghost use Rattle.std.specs.Prelude.{◌≡◌, map, Some, option_map};
 ghost use Rattle.c_ast.specs.RawView.{raw_expression_of, raw_declared_of, raw_put_in_front};
 ghost use Rattle.c_reader.specs.Gives.{Gives};
 ghost use Rattle.c_reader.specs.ReadDeclarations.{shallow_at, optional, begins_type, behind_type, listed_at, declarator_at, declaration_at, parameter_at, parameters_at};
-ghost use Rattle.c_reader.specs.Signs.{behind_sign};
+ghost use Rattle.c_reader.specs.Fronts.{behind_sign};
 ghost use Rattle.c_tokens.specs.declared.fixed.Fixed.{Fixed};
 
 use crate::ReadFault;
 use crate::expression::read_shallow;
+use crate::front::{begins, behind_sign, expect, lowered, skipped};
 use crate::name::read_name;
-use crate::sign::{begins, behind_sign, expect, skipped};
 use c_ast::{RawDeclarator, RawExpr, RawStmt, Var};
 use c_tokens::{Fixed, Token};
 use sqlite_items::Items;
@@ -99,11 +99,9 @@ pub fn read_declaration<'a>(
 ) -> Result<(RawStmt, &'a [Token]), ReadFault>
     ensures { Gives (λ x. (raw_put_in_front x.0, x.1.now)) result (declaration_at room tokens.now) }
 {
-    if room == 0 {
-        return Err(ReadFault::Grammar);
-    }
+    let inside = lowered(room)?;
     let others = expect_type(tokens)?;
-    let (declarators, after) = read_declarators(alloc, room - 1, others)?;
+    let (declarators, after) = read_declarators(alloc, inside, others)?;
     Ok((RawStmt::Declare(declarators), after))
 }
 

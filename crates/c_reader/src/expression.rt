@@ -4,13 +4,13 @@ ghost use Rattle.c_ast.specs.RawTree.{Num, Named, Un, Bin, Cond};
 ghost use Rattle.c_ast.specs.RawView.{raw_expression_of};
 ghost use Rattle.c_reader.specs.Expressions.{expression_depth};
 ghost use Rattle.c_reader.specs.Faults.{Refuses};
-ghost use Rattle.c_reader.specs.ReadExpressions.{next_operator, operand_at, level_at, expression_at, IsDeeper};
 ghost use Rattle.c_reader.specs.Gives.{Gives};
+ghost use Rattle.c_reader.specs.ReadExpressions.{next_operator, operand_at, level_at, expression_at, IsDeeper};
 ghost use Rattle.c_reader.specs.ReadDeclarations.{shallow_at};
 
 use crate::ReadFault;
+use crate::front::{behind_sign, expect, first_of, lowered, wanted};
 use crate::operators::{LOOSEST, operator_of, unary_of};
-use crate::sign::behind_sign;
 use c_ast::{BinOp, Name, RawExpr, UnOp};
 use c_tokens::{Fixed, Kind, Token};
 use sqlite_items::Boxed;
@@ -52,15 +52,20 @@ fn named(name: Name, line: u32) -> Tree
     }
 }
 
-fn constant(value: u64) -> Tree
-    requires { value < 2 ^ 63 }
-    ensures made { raw_expression_of result.expr ≡ Num (pos value) }
-    ensures depth { result.depth ≡ 1 }
+// A constant below 2^63.
+fn constant(value: u64) -> Option<Tree>
+    ensures made { IfSome result (λ tree. raw_expression_of tree.expr ≡ Num (pos value)) }
+    ensures depth { IfSome result (λ tree. tree.depth ≡ 1) }
+    ensures below { IfSome result (λ tree. value < 2 ^ 63) }
+    ensures wide { result ≡ None → 2 ^ 63 ≤ value }
 {
-    Tree {
+    if value > i64::MAX as u64 {
+        return None;
+    }
+    Some(Tree {
         expr: RawExpr::Num(value as i64),
         depth: 1,
-    }
+    })
 }
 
 // A sign with its operand.
@@ -139,32 +144,22 @@ fn read_operand<'a>(
     ensures shorter { IfOk result (λ x. length x.1.now < length tokens.now) }
     ensures refused { IfErr result (Refuses (IsDeeper room (operand_at tokens.now))) }
 {
-    if room == 0 {
-        return Err(ReadFault::Grammar);
-    }
-    let Some((token, others)) = tokens.split_first() else {
-        return Err(ReadFault::Grammar);
-    };
+    let below = lowered(room)?;
+    let (token, others) = first_of(tokens)?;
     match &token.kind {
         Kind::Word(name) => Ok((named(name.copy()?, token.line), others)),
         Kind::Constant(value) => {
-            if *value > i64::MAX as u64 {
-                return Err(ReadFault::Grammar);
-            }
-            Ok((constant(*value), others))
+            let tree = wanted(constant(*value))?;
+            Ok((tree, others))
         }
         Kind::OpenRound => {
             let (inside, after) = read_expression(alloc, room, others)?;
-            let Some(after) = behind_sign(Fixed::CloseRound, after) else {
-                return Err(ReadFault::Grammar);
-            };
+            let after = expect(Fixed::CloseRound, after)?;
             Ok((inside, after))
         }
         kind => {
-            let Some(op) = unary_of(kind) else {
-                return Err(ReadFault::Grammar);
-            };
-            let (operand, after) = read_operand(alloc, room - 1, others)?;
+            let op = wanted(unary_of(kind))?;
+            let (operand, after) = read_operand(alloc, below, others)?;
             Ok((signed(alloc, op, operand)?, after))
         }
     }
@@ -227,9 +222,7 @@ pub fn read_expression<'a>(
     };
     let inside = room_beside(cond.depth, room)?;
     let (first, after) = read_expression(alloc, inside, others)?;
-    let Some(after) = behind_sign(Fixed::Colon, after) else {
-        return Err(ReadFault::Grammar);
-    };
+    let after = expect(Fixed::Colon, after)?;
     let (second, after) = read_expression(alloc, inside, after)?;
     Ok((chosen(alloc, cond, first, second)?, after))
 }

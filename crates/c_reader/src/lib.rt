@@ -13,9 +13,9 @@ mod declaration;
 mod depth;
 mod expression;
 mod fault;
+mod front;
 mod name;
 mod operators;
-mod sign;
 mod simple;
 mod statement;
 #[cfg(test)]

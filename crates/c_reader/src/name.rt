@@ -4,6 +4,7 @@ ghost use Rattle.c_reader.specs.Gives.{Gives};
 ghost use Rattle.c_reader.specs.ReadDeclarations.{name_at};
 
 use crate::ReadFault;
+use crate::front::wanted;
 use c_ast::{Name, Var};
 use c_tokens::{Kind, Token};
 
@@ -23,9 +24,7 @@ pub fn name_at(tokens: &[Token]) -> Option<(&Name, u32, &[Token])>
 pub fn read_name(tokens: &[Token]) -> Result<(Var, &[Token]), ReadFault>
     ensures { Gives (λ x. (x.0, x.1.now)) result (name_at tokens.now) }
 {
-    let Some((name, line, others)) = name_at(tokens) else {
-        return Err(ReadFault::Grammar);
-    };
+    let (name, line, others) = wanted(name_at(tokens))?;
     let name = name.copy()?;
     Ok((Var { name, line }, others))
 }

@@ -5,13 +5,13 @@ ghost use Rattle.c_ast.specs.RawTree.{Bin};
 ghost use Rattle.c_ast.specs.RawView.{raw_expression_of, raw_condition_of, raw_put_in_front};
 ghost use Rattle.c_reader.specs.Gives.{Gives};
 ghost use Rattle.c_reader.specs.Statements.{update_of, step_of, updated};
-ghost use Rattle.c_reader.specs.ReadStatements.{step_at, change_at, simple_at, constant_at, mark_at, condition_at, start_at};
+ghost use Rattle.c_reader.specs.ReadStatements.{increment_at, change_at, simple_at, constant_at, mark_at, condition_at, start_at};
 
 use crate::ReadFault;
 use crate::declaration::{begins_type, read_declaration};
 use crate::expression::read_shallow;
+use crate::front::{behind_sign, expect, expect_either, first_of, lowered, wanted};
 use crate::name::name_at;
-use crate::sign::{behind_sign, expect, expect_either};
 use c_ast::{BinOp, Name, RawCond, RawExpr, RawStmt};
 use c_tokens::{Fixed, Kind, Token};
 use sqlite_items::Boxed;
@@ -61,7 +61,7 @@ fn updated(
 }
 
 // `x++` and its like, where there is room.
-#[tactic(auto, unfolding(crate::specs::ReadStatements::step_at))]
+#[tactic(auto, unfolding(crate::specs::ReadStatements::increment_at))]
 fn read_increment<'a>(
     alloc: Global,
     room: u32,
@@ -72,11 +72,10 @@ fn read_increment<'a>(
     tokens: &'a [Token],
 ) -> Result<(RawStmt, &'a [Token]), ReadFault>
     ensures { Gives (λ x. (raw_put_in_front x.0, x.1.now)) result
-        (step_at room name.now line op operator_line tokens.now) }
+        (increment_at room name.now line op operator_line tokens.now) }
 {
-    if room < 2 {
-        return Err(ReadFault::Grammar);
-    }
+    // `x + 1` has two levels.
+    lowered(lowered(room)?)?;
     let stmt = updated(alloc, name, line, op, operator_line, RawExpr::Num(1))?;
     Ok((stmt, tokens))
 }
@@ -93,9 +92,7 @@ fn read_change<'a>(
     ensures { Gives (λ x. (raw_put_in_front x.0, x.1.now)) result
         (change_at room name.now line tokens.now) }
 {
-    let Some((sign, others)) = tokens.split_first() else {
-        return Err(ReadFault::Grammar);
-    };
+    let (sign, others) = first_of(tokens)?;
     if sign.kind.is(Fixed::Assign) {
         let (expr, after) = read_shallow(alloc, room, others)?;
         let name = name.copy()?;
@@ -106,9 +103,7 @@ fn read_change<'a>(
         let stmt = updated(alloc, name, line, op, sign.line, expr)?;
         return Ok((stmt, after));
     }
-    let Some(op) = step_of(&sign.kind) else {
-        return Err(ReadFault::Grammar);
-    };
+    let op = wanted(step_of(&sign.kind))?;
     read_increment(alloc, room, name, line, op, sign.line, others)
 }
 
@@ -124,39 +119,24 @@ pub fn read_simple<'a>(
 ) -> Result<(RawStmt, &'a [Token]), ReadFault>
     ensures { Gives (λ x. (raw_put_in_front x.0, x.1.now)) result (simple_at room tokens.now) }
 {
-    if room == 0 {
-        return Err(ReadFault::Grammar);
-    }
-    let Some((first, others)) = tokens.split_first() else {
-        return Err(ReadFault::Grammar);
-    };
+    let inside = lowered(room)?;
+    let (first, others) = first_of(tokens)?;
     if let Kind::Word(name) = &first.kind {
-        return read_change(alloc, room - 1, name, first.line, others);
+        return read_change(alloc, inside, name, first.line, others);
     }
-    let Some(op) = step_of(&first.kind) else {
-        return Err(ReadFault::Grammar);
-    };
-    let Some((name, line, after)) = name_at(others) else {
-        return Err(ReadFault::Grammar);
-    };
-    read_increment(alloc, room - 1, name, line, op, first.line, after)
+    let op = wanted(step_of(&first.kind))?;
+    let (name, line, after) = wanted(name_at(others))?;
+    read_increment(alloc, inside, name, line, op, first.line, after)
 }
 
 // The constant that stands first.
 fn constant_at(tokens: &[Token]) -> Result<(u64, &[Token]), ReadFault>
     ensures { Gives (λ x. (x.0, x.1.now)) result (constant_at tokens.now) }
 {
-    match tokens.split_first() {
-        Some(
-            (
-                Token {
-                    kind: Kind::Constant(value),
-                    ..
-                },
-                others,
-            ),
-        ) => Ok((*value, others)),
-        _ => Err(ReadFault::Grammar),
+    let (first, others) = first_of(tokens)?;
+    match &first.kind {
+        Kind::Constant(value) => Ok((*value, others)),
+        _ => wanted(None),
     }
 }
 

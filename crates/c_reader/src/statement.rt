@@ -2,7 +2,7 @@
 ghost use Rattle.std.specs.Prelude.{map, option_map};
 ghost use Rattle.c_ast.specs.RawView.{raw_condition_of, raw_put_in_front};
 ghost use Rattle.c_reader.specs.Gives.{Gives};
-ghost use Rattle.c_reader.specs.Signs.{begins, behind_sign};
+ghost use Rattle.c_reader.specs.Fronts.{begins, behind_sign};
 ghost use Rattle.c_reader.specs.ReadDeclarations.{optional, unless};
 ghost use Rattle.c_reader.specs.ReadStatements.{simple_at, condition_at, start_at, if_at, while_at, do_at, head_at, for_at, ended, entry_at, entries_at, block_at, short_at, statement_at};
 ghost use Rattle.c_tokens.specs.declared.fixed.Fixed.{Fixed};
@@ -10,7 +10,7 @@ ghost use Rattle.c_tokens.specs.declared.fixed.Fixed.{Fixed};
 use crate::ReadFault;
 use crate::declaration::{begins_type, read_declaration};
 use crate::expression::read_shallow;
-use crate::sign::{begins, behind_sign, expect};
+use crate::front::{begins, behind_sign, expect, wanted};
 use crate::simple::{read_condition, read_mark, read_simple, read_start};
 use c_ast::{RawCond, RawStmt};
 use c_tokens::{Fixed, Kind, Token};
@@ -36,10 +36,10 @@ fn read_short<'a>(
     ensures { Gives (λ x. (raw_put_in_front x.0, x.1.now)) result (short_at room tokens.now) }
 {
     if room == 0 {
-        return Err(ReadFault::Grammar);
+        return wanted(None);
     }
     let Some((first, others)) = tokens.split_first() else {
-        return Err(ReadFault::Grammar);
+        return wanted(None);
     };
     match &first.kind {
         Kind::Semicolon => Ok((RawStmt::Empty, others)),
@@ -316,10 +316,10 @@ fn read_statement<'a>(
     ensures { Gives (λ x. (raw_put_in_front x.0, x.1.now)) result (statement_at room tokens.now) }
 {
     if room == 0 {
-        return Err(ReadFault::Grammar);
+        return wanted(None);
     }
     let Some((first, others)) = tokens.split_first() else {
-        return Err(ReadFault::Grammar);
+        return wanted(None);
     };
     match &first.kind {
         Kind::OpenCurly => read_block(alloc, room - 1, others),

@@ -5,7 +5,7 @@ ghost use Rattle.c_ast.specs.RawTree.{RawFunction};
 ghost use Rattle.c_ast.specs.RawShape.{IsShaped};
 ghost use Rattle.c_ast.specs.RawView.{raw_function_of};
 ghost use Rattle.c_reader.specs.Gives.{Gives};
-ghost use Rattle.c_reader.specs.Signs.{begins};
+ghost use Rattle.c_reader.specs.Fronts.{begins};
 ghost use Rattle.c_reader.specs.Units.{SpellsUnit, HasOneTree};
 ghost use Rattle.c_reader.specs.Depth.{IsDeep, unit_depth};
 ghost use Rattle.c_reader.specs.ReadDeclarations.{unless, name_at};
@@ -15,8 +15,8 @@ ghost use Rattle.c_tokens.specs.declared.fixed.Fixed.{Fixed};
 use crate::ReadFault;
 use crate::declaration::{expect_type, read_parameters};
 use crate::depth::{MOST_LEVELS, is_deep};
+use crate::front::{begins, behind_either, behind_sign, expect, wanted};
 use crate::name::{name_at, read_name};
-use crate::sign::{begins, behind_either, behind_sign, expect};
 use crate::statement::read_entries;
 use c_ast::{RawFunc, RawUnit, Var};
 use c_tokens::{Fixed, Token};
@@ -42,10 +42,8 @@ fn skip_name(tokens: &[Token]) -> Result<&[Token], ReadFault>
     if begins(Fixed::CloseRound, tokens) {
         return Ok(tokens);
     }
-    match name_at(tokens) {
-        Some((_, _, others)) => Ok(others),
-        None => Err(ReadFault::Grammar),
-    }
+    let (_, _, others) = wanted(name_at(tokens))?;
+    Ok(others)
 }
 
 // "(" type [name] ")" ";", behind "__mark"

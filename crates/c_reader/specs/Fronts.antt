@@ -1,10 +1,20 @@
--- Signs, the tokens of one spelling, at the front of tokens, and the tokens behind them. Only proofs and the contracts of
--- private functions cite these.
-use Rattle.std.specs.Prelude.{Bool, true, false, ◌||◌, if◌then◌else◌, List, [], ◌∷◌, Option, Some, None}
+-- What stands at the front of tokens: a token, or a sign, which is a token of one spelling. Only proofs and the contracts
+-- of private functions cite these.
+use Rattle.std.specs.Prelude.{ℕ, zero, suc, Bool, false, ◌||◌, if◌then◌else◌, List, [], ◌∷◌, Option, Some, None}
 use Rattle.c_tokens.specs.declared.kind.Kind.{Kind}
 use Rattle.c_tokens.specs.declared.token.Token.{Token}
 use Rattle.c_tokens.specs.declared.fixed.Fixed.{Fixed}
 use Rattle.c_tokens.specs.Fixed.{is_kind_of}
+
+-- the first token, and those behind it
+abbrev pub first_of : List Token → Option (Token × List Token)
+first_of [] = None
+first_of (first ∷ others) = Some (first, others)
+
+-- the room for what stands in a tree that has this much room
+abbrev pub lowered : ℕ → Option ℕ
+lowered zero = None
+lowered (suc room) = Some room
 
 -- the tokens behind the sign, where it stands first
 abbrev pub behind_sign : Fixed → List Token → Option (List Token)
