@@ -5,17 +5,8 @@ use Rattle.c_ast.specs.Tree.{Expression, Num, Var, Un, Bin, Cond}
 use Rattle.c_ast.specs.Value.{eval, unary_value, is_nonzero}
 use Rattle.c_ast.specs.Step.{Scope, is_in, with_value, values_from, values_in, spread_one, spread_from, spread}
 use Rattle.c_ast.specs.Formed.{IsOver}
+use Rattle.c_ast.specs.Agreement.{Agree, Within}
 use Rattle.c_ast.proofs.Lengths.{length-spread_from}
-
--- Two environments of n variables agree on the variables in scope.
-pub record Agree (n : ℕ) (scope : Scope) (a b : List ℤ) : Type 0 where
-  pub left : length a ≡ n
-  pub right : length b ≡ n
-  pub agree : (x : ℕ) → is_in scope x ≡ true → get_or a x (pos 0) ≡ get_or b x (pos 0)
-
--- What is in the first scope is in the second.
-pub record Within (inner outer : Scope) : Type 0 where
-  pub by : (x : ℕ) → is_in inner x ≡ true → is_in outer x ≡ true
 
 pub within_itself : (scope : Scope) → Within scope scope
 within_itself scope = record { by = λ x inside. inside }

@@ -2,6 +2,7 @@
 use Rattle.std.proofs.Common.{◌≡◌, List, [], ◌∷◌, map, refl, sym, ap, ◌∙◌, subst}
 use Rattle.c_ast.specs.Tree as tree
 use Rattle.c_ast.specs.Tree.{Expression, Statements}
+use Rattle.c_ast.specs.Fronts.{OneTree, OneExpression}
 use Rattle.c_ast.specs.View.{expression_level, expression_of, statement_level, put_in_front, statements_of}
 use Rattle.c_ast.specs.declared.expr.Expr.{Expr, map-Expr, roll-Expr}
 use Rattle.c_ast.specs.declared.expr.Expr.TheOpen.{Expr-F}
@@ -88,5 +89,9 @@ statements_back [] = refl
 statements_back (stmt ∷ stmts) = front_back stmt (statements_of stmts) ∙ ap (λ (others : List Stmt). stmt ∷ others) (statements_back stmts)
 
 -- Lists of statements with one tree are equal.
-pub one_tree : (first second : List Stmt) → statements_of first ≡ statements_of second → first ≡ second
+pub one_tree : OneTree
 one_tree first second same = sym (statements_back first) ∙ ap statements_with same ∙ statements_back second
+
+-- Expressions with one tree are equal.
+pub one_expression : OneExpression
+one_expression first second same = sym (expression_back first) ∙ ap expression_with same ∙ expression_back second

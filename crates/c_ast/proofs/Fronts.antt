@@ -2,6 +2,7 @@
 use Rattle.std.proofs.Common.{◌≡◌, ℕ, Bool, List, Option, ap, ◌∙◌}
 use Rattle.c_ast.specs.Tree as tree
 use Rattle.c_ast.specs.Tree.{Statements}
+use Rattle.c_ast.specs.Fronts.{Fronts}
 use Rattle.c_ast.specs.View.{expression_of, statement_level, put_in_front, statements_of}
 use Rattle.c_ast.specs.declared.expr.Expr.{Expr}
 use Rattle.c_ast.specs.declared.stmt.Stmt.{Stmt, Set, If, Loop, Break, Continue, Return, Mark, Block, fold_out-Stmt, map-Stmt, out-Stmt}
@@ -37,3 +38,16 @@ front-Mark mark others = level (Mark mark) _ others (outs-Mark mark)
 
 pub front-Block : (a : List Stmt) (others : Statements) → put_in_front (Block a) others ≡ tree.Block (statements_of a) others
 front-Block a others = level (Block a) _ others (outs-Block a)
+
+-- All of them.
+pub fronts : Fronts
+fronts = record {
+  set = front-Set;
+  if_ = front-If;
+  loop = front-Loop;
+  break_ = front-Break;
+  continue_ = front-Continue;
+  return_ = front-Return;
+  mark = front-Mark;
+  block = front-Block;
+}

@@ -1,3 +1,4 @@
+pub mod Division
 pub mod Levels
 pub mod Fronts
 pub mod Choosing
@@ -21,3 +22,4 @@ pub mod Agreeing
 pub mod Nesting
 pub mod Stepping
 pub mod Passing
+pub mod Laws

@@ -6,30 +6,11 @@ use Rattle.c_ast.specs.Tree.{Expression, Statements, Nil, Set, If, Loop, Break, 
 use Rattle.c_ast.specs.Value.{eval, is_nonzero}
 use Rattle.c_ast.specs.Step.{Scope, LoopParts, Item, Run, Test, Cond, Tail, Work, first_variables, Next, Goes, Passes, Ends, past_tail, to_tail, tested, entered, turned, step, start}
 use Rattle.c_ast.specs.Segment.{StandsIn, Follows, GoesOnFrom}
-
-abbrev pub LoopHas : Scope → LoopParts → Work → ℕ → Work → Type 0
-LoopHas scope loop work mark after =
-    (loop.mark ≡ Some mark) × (after ≡ Cond scope loop ∷ work) ⊎ StandsIn scope loop.body (Tail scope loop ∷ work) mark after
-    ⊎ StandsIn scope loop.step (Test scope loop ∷ work) mark after
-
-abbrev pub ItemHas : Item → Work → ℕ → Work → Type 0
-ItemHas (Run scope stmts) work mark after = StandsIn scope stmts work mark after
-ItemHas (Test scope loop) work mark after = LoopHas scope loop work mark after
-ItemHas (Cond scope loop) work mark after = LoopHas scope loop work mark after
-ItemHas (Tail scope loop) work mark after = LoopHas scope loop work mark after
-
--- The mark stands in an item of the work; right after it is passed the work is the last one.
-abbrev pub WorkHas : Work → ℕ → Work → Type 0
-WorkHas [] mark after = ⊥
-WorkHas (item ∷ work) mark after = ItemHas item work mark after ⊎ WorkHas work mark after
+use Rattle.c_ast.specs.Ahead.{WorkHas, IsAhead, IsAheadNext, MarksAreAhead, MarksAreAheadAtStart, MarksStayAhead}
 
 -- Each mark of the later work stands in the earlier one, with the same work behind it.
 pub record Keeps (earlier later : Work) : Type 0 where
   pub by : (mark : ℕ) (after : Work) → WorkHas later mark after → WorkHas earlier mark after
-
--- Each mark of the work is the function's.
-pub record IsAhead (f : Program) (work : Work) : Type 0 where
-  pub by : (mark : ℕ) (after : Work) → WorkHas work mark after → Follows f mark after
 
 pub ahead_kept : (f : Program) (earlier later : Work) → Keeps earlier later → IsAhead f earlier → IsAhead f later
 ahead_kept f earlier later keeps ahead = record { by = λ mark after has. ahead.by mark after (keeps.by mark after has) }
@@ -112,14 +93,8 @@ keeps_block scope a others work = record {
   by = λ mark after. elim [ inl has ↦ inl (inl has) | inr (inl has) ↦ inl (inr has) | inr (inr has) ↦ inr has ];
 }
 
-pub ahead_at_start : (f : Program) → IsAhead f (start f)
+pub ahead_at_start : MarksAreAheadAtStart
 ahead_at_start f = record { by = λ mark after. elim [ inl has ↦ has | inr has ↦ absurd has ] }
-
--- the marks ahead of the work that a step leads to, and the mark that it passes, are the function's
-abbrev pub IsAheadNext : Program → Next → Type 0
-IsAheadNext f (Goes work env) = IsAhead f work
-IsAheadNext f (Passes mark work env) = IsAhead f work × Follows f mark work
-IsAheadNext f (Ends value) = Unit {0}
 
 ahead-tested : (f : Program) (own : Option ℕ) (scope : Scope) (loop : LoopParts) (work : Work) (env : List ℤ) → loop.mark ≡ own
     → IsAhead f (Test scope loop ∷ work) → IsAheadNext f (tested own (Cond scope loop ∷ work) env)
@@ -127,7 +102,7 @@ ahead-tested f None scope loop work env is ahead = ahead_kept f _ _ (keeps_teste
 ahead-tested f (Some mark) scope loop work env is ahead =
     (ahead_kept f _ _ (keeps_tested scope loop work) ahead, ahead.by mark _ (inl (inl (is, refl))))
 
-pub ahead_next : (f : Program) (work : Work) (env : List ℤ) → IsAhead f work → IsAheadNext f (step work env)
+pub ahead_next : MarksStayAhead
 ahead_next f [] env ahead = tt
 ahead_next f (Run scope Nil ∷ work) env ahead = ahead_kept f _ _ (keeps_below (Run scope Nil) work) ahead
 ahead_next f (Run scope (Set x e others) ∷ work) env ahead = ahead_kept f _ _ (keeps_set scope x e others work) ahead
@@ -218,7 +193,7 @@ ahead_after f mark after follows = record {
 }
 
 -- where a run goes on from a place, the marks ahead are the function's
-pub ahead_from : (f : Program) (l : Place) (work : Work) → GoesOnFrom f l work → IsAhead f work
+pub ahead_from : MarksAreAhead
 ahead_from f place.Entry work from = rw from (ahead_at_start f)
 ahead_from f (place.Mark mark) work from = ahead_after f mark work from
 ahead_from f place.Exit work from = absurd from

@@ -5,20 +5,8 @@ use Rattle.std.proofs.lemmas.Int.{ints}
 use Rattle.c_ast.specs.Tree.{Expression, Statements, Nil, Set, If, Loop, Break, Continue, Return, Mark, Block}
 use Rattle.c_ast.specs.Step.{Scope, is_in, LoopParts, Item, Run, Test, Cond, Tail, Work, item_scope, past_tail, to_tail}
 use Rattle.c_ast.specs.Formed.{IsOver, IsSet, AreFormed}
-use Rattle.c_ast.proofs.Agreeing.{Within, within_both}
-
--- Each expression of the statements is over the variables in scope.
-abbrev pub ReadsInScope : Scope → Statements → Type 0
-ReadsInScope scope Nil = Unit {0}
-ReadsInScope scope (Set x e others) = IsOver scope e × ReadsInScope (x ∷ scope) others
-ReadsInScope scope (If e a b others) = IsOver scope e × ReadsInScope scope a × ReadsInScope scope b × ReadsInScope scope others
-ReadsInScope scope (Loop mark cond body step test_first others) =
-    IsOver scope cond × ReadsInScope scope body × ReadsInScope scope step × ReadsInScope scope others
-ReadsInScope scope (Break others) = ReadsInScope scope others
-ReadsInScope scope (Continue others) = ReadsInScope scope others
-ReadsInScope scope (Return e others) = IsOver scope e × ReadsInScope scope others
-ReadsInScope scope (Mark mark others) = ReadsInScope scope others
-ReadsInScope scope (Block a others) = ReadsInScope scope a × ReadsInScope scope others
+use Rattle.c_ast.specs.Agreement.{Within, ReadsInScope, LoopReads, ItemReads, Nested}
+use Rattle.c_ast.proofs.Agreeing.{within_both}
 
 set_reads : (in_scope : Bool) (scope : Scope) (e : Expression) → IsSet in_scope scope e → IsOver scope e
 set_reads true scope e is = is
@@ -38,20 +26,6 @@ formed_reads (Continue others) n scope in_loop is = formed_reads others n scope 
 formed_reads (Return e others) n scope in_loop is = (is.0, formed_reads others n scope in_loop is.1)
 formed_reads (Mark mark others) n scope in_loop is = formed_reads others n scope in_loop is
 formed_reads (Block a others) n scope in_loop is = (formed_reads a n scope in_loop is.0, formed_reads others n scope in_loop is.1)
-
-abbrev pub LoopReads : Scope → LoopParts → Type 0
-LoopReads scope loop = IsOver scope loop.cond × ReadsInScope scope loop.body × ReadsInScope scope loop.step
-
-abbrev pub ItemReads : Item → Type 0
-ItemReads (Run scope stmts) = ReadsInScope scope stmts
-ItemReads (Test scope loop) = LoopReads scope loop
-ItemReads (Cond scope loop) = LoopReads scope loop
-ItemReads (Tail scope loop) = LoopReads scope loop
-
--- The scope of each item of the work lies within that of the one before, and that of the first within this one.
-abbrev pub Nested : Scope → Work → Type 0
-Nested scope [] = Unit {0}
-Nested scope (item ∷ work) = Within (item_scope item) scope × ItemReads item × Nested (item_scope item) work
 
 pub nested_within : (work : Work) (inner outer : Scope) → Within inner outer → Nested inner work → Nested outer work
 nested_within [] inner outer within is = tt

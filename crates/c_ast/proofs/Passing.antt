@@ -12,10 +12,11 @@ use Rattle.c_ast.specs.Segment.{Follows, at_mark, at_exit, met_within, IsSegment
 use Rattle.c_ast.specs.Formed.{IsProgram}
 use Rattle.c_ast.specs.Passing.{LeadsThrough, TraceIsSegments}
 use Rattle.c_ast.proofs.Lengths.{length-spread_from}
-use Rattle.c_ast.proofs.Agreeing.{Agree, within_itself, agree_itself, agree_both, agree_spread}
+use Rattle.c_ast.specs.Agreement.{Agree, IsReady, AreAlike}
+use Rattle.c_ast.proofs.Agreeing.{within_itself, agree_itself, agree_both, agree_spread}
 use Rattle.c_ast.proofs.Nesting.{formed_reads}
 use Rattle.c_ast.proofs.MarksAhead.{ahead_at_start}
-use Rattle.c_ast.proofs.Stepping.{IsReady, AreAlike, step_alike}
+use Rattle.c_ast.proofs.Stepping.{step_alike}
 use Rattle.c_ast.proofs.Following.{follows_once}
 
 abbrev Met : Type 0
@@ -72,8 +73,7 @@ module _ (f : Program) where
       subst (λ (z : List ℤ). IsSegment f l e place.Exit z) leads.1 at_place
   through l e l' e' (event ∷ events) result segment leads =
       let at_place = subst (λ (z : Place). IsSegment f l e z e') leads.0 segment in
-      let others = subst (λ (z : Place). LeadsThrough f z e' events result) leads.0 leads.2 in
-      (
+      let others = subst (λ (z : Place). LeadsThrough f z e' events result) leads.0 leads.2 in (
         subst (λ (z : List ℤ). IsSegment f l e (place.Mark event.mark) z) leads.1 at_place,
         subst (λ (z : List ℤ). LeadsThrough f (place.Mark event.mark) z events result) leads.1 others,
       )
@@ -83,7 +83,7 @@ module _ (f : Program) where
   after_step : (n marks : ℕ) (trace : Trace) (x y : Next)
       → seen_next always None with_event no_event (trace_after n) marks x ≡ Some trace → AreAlike f x y
       → ((marks : ℕ) (work : Work) (scope : Scope) (a b : List ℤ) (trace : Trace) → IsReady f scope work a b → trace_after n marks work a ≡ Some trace
-          → GoesOut work b trace.events trace.result)
+      → GoesOut work b trace.events trace.result)
       → (work : Work) (b : List ℤ) → step work b ≡ y → GoesOut work b trace.events trace.result
   after_step n marks trace (Goes w1 a1) (Goes w2 b1) ran alike goes work b e =
       let out = goes marks w1 alike.1 a1 b1 trace alike.2 ran in
@@ -151,7 +151,7 @@ module _ (f : Program) where
       let scope = first_variables f.params in
       record {
         nested = (within_itself scope, formed_reads f.body f.vars scope false formed.formed, tt);
-        agree = agree_itself f.vars scope (spread scope f.vars inputs) (length-spread_from scope 0 f.vars inputs);
+        agree = agree_itself f.vars scope (spread scope f.vars inputs) (length-spread_from (pos 0) scope 0 f.vars inputs);
         ahead = ahead_at_start f;
       }
 

@@ -9,9 +9,12 @@ use Rattle.c_ast.specs.Step.{Work, scope_of, values_in, first_variables, Next, G
 use Rattle.c_ast.specs.Returns.{always}
 use Rattle.c_ast.specs.Trace.{with_event, no_event}
 use Rattle.c_ast.specs.Segment.{Follows, FitsPlace, at_mark, at_exit, met_within}
-use Rattle.c_ast.specs.Laws.{MeetsFittingValues, FitsEvent, TraceFits}
-use Rattle.c_ast.proofs.MarksAhead.{IsAhead, IsAheadNext, ahead_next, ahead_at_start, ahead_from}
-use Rattle.c_ast.proofs.Lengths.{length-values_from, length-spread, values_from-few, HasLength, length-step}
+use Rattle.c_ast.specs.Laws.{FittingValuesAreAsMany, EntryIsNotMet, ExitIsLast, MeetsFittingValues, FitsEvent, TraceFits}
+use Rattle.c_ast.specs.Ahead.{IsAhead, IsAheadNext}
+use Rattle.c_ast.proofs.MarksAhead.{ahead_next, ahead_at_start, ahead_from}
+use Rattle.c_ast.specs.Environments.{HasLength}
+use Rattle.c_ast.proofs.Following.{follows_once}
+use Rattle.c_ast.proofs.Lengths.{length-values_from, length-spread, values_from-few, length-step}
 
 -- the values in scope after a mark of the function fit it
 values_fit : (f : Program) (mark : ℕ) (work : Work) (env : List ℤ) → Follows f mark work → length env ≡ f.vars
@@ -80,3 +83,37 @@ pub trace_fits : TraceFits
 trace_fits f is inputs trace ran =
     trace_fitting f is.few ran.steps 0 (start f) (spread (first_variables f.params) f.vars inputs) trace (ahead_at_start f)
     (length-spread (first_variables f.params) f.vars inputs) ran.ran
+
+-- ---- what fits a place, and which places are met
+
+pub as_many_values : FittingValuesAreAsMany
+as_many_values f formed place.Entry d e first second = first ∙ sym second
+as_many_values f formed (place.Mark mark) d e first second =
+    let same = follows_once f formed mark first.0 second.0 first.1 second.1 in
+    first.2 ∙ rw same (sym second.2)
+as_many_values f formed place.Exit d e first second = first ∙ sym second
+
+place_is : (a b : Met) → Some a ≡ Some b → a.0 ≡ b.0
+place_is a b same = let is : a ≡ b = cc in ap (λ (z : Met). z.0) is
+
+never_entry : (n marks : ℕ) (work : Work) (env : List ℤ) (l : Place) (e : List ℤ) → l ≡ place.Entry
+    → seen always None at_mark at_exit n marks work env ≡ Some (l, e) → ⊥
+never_entry zero marks work env l e same met = cc
+never_entry (suc n) marks work env l e same met = on (step work env) (λ m w v. never_entry n m w v l e same) met
+  where
+    on : (next : Next) → ((marks : ℕ) (work : Work) (env : List ℤ) → seen always None at_mark at_exit n marks work env ≡ Some (l, e) → ⊥)
+        → seen_next always None at_mark at_exit (seen always None at_mark at_exit n) marks next ≡ Some (l, e) → ⊥
+    on (Goes work env) later met = later marks work env met
+    on (Passes mark work env) later met =
+        let never : place.Mark mark ≡ place.Entry = place_is (place.Mark mark, values_in (scope_of work) env) (l, e) met ∙ same in
+        cc
+    on (Ends value) later met =
+        let never : place.Exit ≡ place.Entry = place_is (place.Exit, value ∷ []) (l, e) met ∙ same in
+        cc
+
+pub entry_is_not_met : EntryIsNotMet
+entry_is_not_met f l e l' e' segment same =
+    never_entry segment.steps 0 segment.work (spread (scope_of segment.work) f.vars e) l' e' same segment.met
+
+pub exit_is_last : ExitIsLast
+exit_is_last f e l' e' segment = segment.from

@@ -4,27 +4,11 @@ use Rattle.c_ast.specs.Tree.{Expression, Statements, Nil, Set, If, Loop, Break, 
 use Rattle.c_ast.specs.Value.{eval, is_nonzero}
 use Rattle.c_ast.specs.Step.{Scope, LoopParts, Run, Test, Cond, Tail, Work, scope_of, Next, Goes, Passes, Ends, tested, entered, turned, step}
 use Rattle.c_ast.specs.Segment.{Follows}
-use Rattle.c_ast.proofs.Agreeing.{Agree, within_itself, within_more, agree_within, eval_agree, agree_set}
-use Rattle.c_ast.proofs.Nesting.{Nested, nested_within, nested-past_tail, nested-to_tail}
-use Rattle.c_ast.proofs.MarksAhead.{Keeps, IsAhead, ahead_kept, keeps-past_tail, keeps-to_tail, keeps_below, keeps_both, keeps_set, keeps_branch, keeps-entered, keeps-turned, keeps_tested, keeps_tail, keeps_mark, keeps_block}
-
--- The work reads what is in scope alone, the environments agree on that, and the marks ahead are the function's.
-pub record IsReady (f : Program) (scope : Scope) (work : Work) (a b : List ℤ) : Type 0 where
-  pub nested : Nested scope work
-  pub agree : Agree f.vars scope a b
-  pub ahead : IsAhead f work
-
--- Both steps go on with one work, pass one mark of the function, or end with one result.
-abbrev pub AreAlike : Program → Next → Next → Type 0
-AreAlike f (Goes work a) (Goes other b) = (work ≡ other) × (scope : Scope) × IsReady f scope work a b
-AreAlike f (Passes mark work a) (Passes own other b) = (mark ≡ own) × (work ≡ other) × IsReady f (scope_of work) work a b × Follows f mark work
-AreAlike f (Ends u) (Ends v) = u ≡ v
-AreAlike f (Goes work a) (Passes own other b) = ⊥
-AreAlike f (Goes work a) (Ends v) = ⊥
-AreAlike f (Passes mark work a) (Goes other b) = ⊥
-AreAlike f (Passes mark work a) (Ends v) = ⊥
-AreAlike f (Ends u) (Goes other b) = ⊥
-AreAlike f (Ends u) (Passes own other b) = ⊥
+use Rattle.c_ast.specs.Agreement.{Agree, Nested, IsReady, AreAlike, StepsAreAlike}
+use Rattle.c_ast.proofs.Agreeing.{within_itself, within_more, agree_within, eval_agree, agree_set}
+use Rattle.c_ast.proofs.Nesting.{nested_within, nested-past_tail, nested-to_tail}
+use Rattle.c_ast.specs.Ahead.{IsAhead}
+use Rattle.c_ast.proofs.MarksAhead.{Keeps, ahead_kept, keeps-past_tail, keeps-to_tail, keeps_below, keeps_both, keeps_set, keeps_branch, keeps-entered, keeps-turned, keeps_tested, keeps_tail, keeps_mark, keeps_block}
 
 nested_branch : (scope : Scope) (e : Expression) (a b others : Statements) (work : Work) (outer : Scope)
     → Nested outer (Run scope (If e a b others) ∷ work) → (t : Bool)

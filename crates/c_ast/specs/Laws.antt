@@ -1,5 +1,5 @@
 -- Laws of runs: what is returned, traces, the places that follow one another, and runs with a limit of marks.
-use Rattle.std.specs.Prelude.{◌≡◌, ℕ, ◌<◌, ◌≤◌, ◌↔◌, ◌⊎◌, List, ℤ, length, All}
+use Rattle.std.specs.Prelude.{◌≡◌, ◌≢◌, ℕ, ◌<◌, ◌≤◌, ◌↔◌, ◌⊎◌, List, ℤ, length, All}
 use Rattle.c_ast.specs.declared.place.Place.{Place}
 use Rattle.c_ast.specs.declared.place.Place.TheVariants as place
 use Rattle.c_ast.specs.declared.trace.Event.{Event}
@@ -42,6 +42,18 @@ NextPlaceExists = (f : Program) → IsProgram f → (l : Place) (e : List ℤ) (
 -- The values with which a place is met are as many as the variables in scope there.
 abbrev pub MeetsFittingValues : Type 0
 MeetsFittingValues = (f : Program) (l : Place) (e : List ℤ) (l' : Place) (e' : List ℤ) → IsSegment f l e l' e' → FitsPlace f l' e'
+
+-- The values that fit one place are equally many.
+abbrev pub FittingValuesAreAsMany : Type 0
+FittingValuesAreAsMany = (f : Program) → IsProgram f → (l : Place) (d e : List ℤ) → FitsPlace f l d → FitsPlace f l e → length d ≡ length e
+
+-- No segment ends at the entry.
+abbrev pub EntryIsNotMet : Type 0
+EntryIsNotMet = (f : Program) (l : Place) (e : List ℤ) (l' : Place) (e' : List ℤ) → IsSegment f l e l' e' → l' ≢ place.Entry
+
+-- No segment begins at the exit.
+abbrev pub ExitIsLast : Type 0
+ExitIsLast = (f : Program) (e : List ℤ) (l' : Place) (e' : List ℤ) → ¬ IsSegment f place.Exit e l' e'
 
 -- An event's mark is one of the function's, with as many values as variables in scope there, at most 64.
 pub record FitsEvent (f : Program) (event : Event) : Type 0 where

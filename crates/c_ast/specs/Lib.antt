@@ -17,8 +17,12 @@ pub mod Formed
 pub mod Bounds
 pub mod Comparison
 pub mod Passing
+pub mod Ahead
+pub mod Agreement
+pub mod Fronts
 pub mod Laws
 pub mod Scope
+pub mod Environments
 pub mod Outcome
 pub mod Judged
 pub mod Sums

@@ -5,35 +5,36 @@
 //! `Returns.antt` what a function returns. All numbers of a run are integers of any size.
 #![tactic(auto)]
 
-mod name;
-mod expr;
-mod stmt;
-mod raw;
-mod value;
 mod copy;
-mod same;
+mod expr;
 mod func;
+mod law;
+mod name;
 mod place;
+mod raw;
+mod same;
 mod scope;
-mod trace;
 mod settings;
+mod stmt;
 mod subject;
-mod laws;
 #[cfg(test)]
 mod tests;
+mod trace;
+mod value;
 
-pub use name::Name;
-pub use expr::{BinOp, Expr, UnOp};
-pub use stmt::Stmt;
-pub use raw::{RawCond, RawDeclarator, RawExpr, RawFunc, RawStmt, RawUnit};
-pub use value::{WIDE_RUN, is_nonzero, value_of};
 pub use copy::copy_expr;
+pub use expr::{BinOp, Expr, UnOp};
 pub use func::{Func, Var};
-pub use place::{Place, Side};
-pub use scope::first_environment;
-pub use trace::{Event, Outcome, Pair, Trace};
-pub use settings::{MOST_MARKS, MOST_ROWS, MOST_SAMPLES, Settings};
-pub use subject::{Arity, Subject};
-pub use laws::{
-    law_of_division, law_of_outcomes, law_of_places, law_of_results, law_of_segments, law_of_traces,
+pub use law::{
+    law_of_division, law_of_environments, law_of_marks, law_of_outcomes, law_of_places,
+    law_of_results, law_of_scopes, law_of_segments, law_of_traces, law_of_trees, law_of_values,
 };
+pub use name::Name;
+pub use place::{Place, Side};
+pub use raw::{RawCond, RawDeclarator, RawExpr, RawFunc, RawStmt, RawUnit};
+pub use scope::first_environment;
+pub use settings::{MOST_MARKS, MOST_ROWS, MOST_SAMPLES, Settings};
+pub use stmt::Stmt;
+pub use subject::{Arity, Subject};
+pub use trace::{Event, Outcome, Pair, Trace};
+pub use value::{WIDE_RUN, is_nonzero, value_of};

@@ -1,7 +1,8 @@
 //! Values that were worked out by hand, from the meaning of C's operators. The trees here have the variables 0 and 1.
-ghost use Rattle.std.specs.Prelude.{◌<◌, IfOk};
+ghost use Rattle.std.specs.Prelude.{◌<◌, ◌≤ℤ◌, pos, IfOk, IsTrue};
+ghost use Rattle.c_ast.specs.Tree.{Expression};
 ghost use Rattle.c_ast.specs.View.{expression_of};
-ghost use Rattle.c_ast.specs.Value.{CanEvaluate};
+ghost use Rattle.c_ast.specs.Value.{CanEvaluate, HasDivisor};
 
 use crate::{BinOp, Expr, UnOp, value_of};
 use sqlite_items::Boxed;
@@ -25,14 +26,39 @@ fn un(alloc: Global, op: UnOp, operand: Expr) -> Result<Expr, AllocError>
     Ok(Expr::Un(op, Boxed::new(alloc, operand)?))
 }
 
+/// Whether the operator takes any right operand.
+fn takes_any(op: BinOp) -> bool
+    ensures { IsTrue result → (right : Expression) → HasDivisor op right }
+{
+    match op {
+        BinOp::Div => false,
+        BinOp::Rem => false,
+        _ => true,
+    }
+}
+
 fn bin(alloc: Global, left: Expr, op: BinOp, right: Expr) -> Result<Expr, AllocError>
     requires left { CanEvaluate 2 (expression_of left) }
     requires right { CanEvaluate 2 (expression_of right) }
+    requires any { (right : Expression) → HasDivisor op right }
     ensures { IfOk result (λ made. CanEvaluate 2 (expression_of made)) }
 {
     let left = Boxed::new(alloc, left)?;
     let right = Boxed::new(alloc, right)?;
     Ok(Expr::Bin(op, left, right))
+}
+
+/// The variable 0 over a divisor, or what is left of it.
+fn divided(alloc: Global, is_remainder: bool, divisor: i64) -> Result<Expr, AllocError>
+    requires { pos 1 ≤ℤ divisor }
+    ensures { IfOk result (λ made. CanEvaluate 2 (expression_of made)) }
+{
+    let left = Boxed::new(alloc, var(0))?;
+    let right = Boxed::new(alloc, Expr::Num(divisor))?;
+    if is_remainder {
+        return Ok(Expr::Bin(BinOp::Rem, left, right));
+    }
+    Ok(Expr::Bin(BinOp::Div, left, right))
 }
 
 fn cond(alloc: Global, test: Expr, first: Expr, second: Expr) -> Result<Expr, AllocError>
@@ -79,9 +105,46 @@ fn operators_have_their_values(rt: HostRuntime) -> Result<(), Fail> {
         (BinOp::Or, 1, HALF * 2, None),
     ];
     for (op, left, right, want) in rows {
+        assert!(rt; takes_any(op));
         let expr = bin(alloc, var(0), op, var(1))?;
         let got = value_of(&expr, &[left, right]);
         assert_eq!(rt; got, want, "{left} {op:?} {right}");
+    }
+    Ok(())
+}
+
+/// A value, a divisor, the quotient and the remainder, as C compilers give them.
+const DIVISIONS: [(i128, i64, Option<i128>, Option<i128>); 15] = [
+    (7, 2, Some(3), Some(1)),
+    (-7, 2, Some(-3), Some(-1)),
+    (6, 3, Some(2), Some(0)),
+    (-6, 3, Some(-2), Some(0)),
+    (1, 2, Some(0), Some(1)),
+    (-1, 2, Some(0), Some(-1)),
+    (0, 5, Some(0), Some(0)),
+    (5, 1, Some(5), Some(0)),
+    (-5, 1, Some(-5), Some(0)),
+    (4, 5, Some(0), Some(4)),
+    (-4, 5, Some(0), Some(-4)),
+    (HALF, i64::MAX, Some(68_719_476_736), Some(68_719_476_736)),
+    (HALF * 2 - 1, 2, Some(HALF - 1), Some(1)),
+    (1 - HALF * 2, 1, Some(1 - HALF * 2), Some(0)),
+    (HALF * 2, 2, None, None),
+];
+
+#[test]
+fn divisions_truncate_toward_zero(rt: HostRuntime) -> Result<(), Fail> {
+    let alloc = rt.alloc();
+    for (value, divisor, quotient, remainder) in DIVISIONS {
+        assert!(rt; divisor >= 1);
+        for (is_remainder, want) in [(false, quotient), (true, remainder)] {
+            let expr = divided(alloc, is_remainder, divisor)?;
+            assert_eq!(rt;
+                value_of(&expr, &[value, 0]),
+                want,
+                "{value} over {divisor}"
+            );
+        }
     }
     Ok(())
 }

@@ -4,8 +4,8 @@ use Rattle.c_ast.specs.declared.place.Place.TheVariants as place
 use Rattle.c_ast.specs.declared.trace.Event.{Event}
 use Rattle.c_ast.specs.declared.interpreter.Item.{Item}
 use Rattle.c_ast.specs.declared.interpreter.Next.TheVariants as next
-use Rattle.c_ast.specs.declared.interpreter.Outcome.{Outcome}
-use Rattle.c_ast.specs.declared.interpreter.Outcome.TheVariants as outcome
+use Rattle.c_ast.specs.declared.trace.Outcome.{Outcome}
+use Rattle.c_ast.specs.declared.trace.Outcome.TheVariants as outcome
 use Rattle.c_ast.specs.Tree.{Expression, Statements, Nil, Set, If, Loop, Break, Continue, Return, Mark, Block, Program}
 use Rattle.c_ast.specs.Value.{eval, is_nonzero}
 use Rattle.c_ast.specs.Step as run
@@ -13,9 +13,9 @@ use Rattle.c_ast.specs.Step.{Scope, is_in, first_variables, LoopParts, Run, Test
 use Rattle.c_ast.specs.Segment.{Follows}
 use Rattle.c_ast.specs.Formed.{AreFormed, IsProgram}
 use Rattle.c_ast.specs.Within.{AreWithin, IsLoopWithin, IsWorkWithin}
-use Rattle.c_ast.specs.Shown.{work_of, bare, bare_next, evaluates_narrow, TakesStep}
+use Rattle.c_ast.specs.Shown.{work_of, bare, bare_next, evaluates_fitting, TakesStep}
 use Rattle.c_ast.specs.Scope.{IsPlace}
-use Rattle.c_ast.specs.Interpreted.{with_first, at_event, returned, interpreted, or_cut_off, outcome_within, IsEvent}
+use Rattle.c_ast.specs.Outcome.{with_first, at_event, returned, interpreted, or_cut_off, outcome_within, IsEvent}
 use Rattle.c_ast.proofs.MarksAhead.{IsAhead, IsAheadNext, ahead_next, ahead_at_start}
 use Rattle.c_ast.proofs.Lengths.{HasLength, length-step, length-spread}
 use Rattle.c_ast.proofs.Scoped.{IsBelow, over_below, set_below, more_below, first_below}
@@ -203,14 +203,14 @@ begins f is inputs steps left items env left_is items_are env_is = record {
 pub step_within : (f : Program) (o : Outcome) (left : ℕ) (events : List Event) (items : List Item) (env : List ℤ) → Interprets f o left events items env → IsWorkWithin (length env) (work_of items)
 step_within f o left events items env i = rw i.size (subst (IsWorkWithin f.vars) i.bare_is (bare_within f.vars i.work i.within))
 
-narrow_same : (w : Work) (items : List Item) (env : List ℤ) → bare w ≡ work_of items → evaluates_narrow (evaluated w) env ≡ evaluates_narrow (evaluated (work_of items)) env
-narrow_same w items env is = ap (λ (e : Option Expression). evaluates_narrow e env) (sym (bare_evaluated w)) ∙ ap (λ (z : Work). evaluates_narrow (evaluated z) env) is
+narrow_same : (w : Work) (items : List Item) (env : List ℤ) → bare w ≡ work_of items → evaluates_fitting (evaluated w) env ≡ evaluates_fitting (evaluated (work_of items)) env
+narrow_same w items env is = ap (λ (e : Option Expression). evaluates_fitting e env) (sym (bare_evaluated w)) ∙ ap (λ (z : Work). evaluates_fitting (evaluated z) env) is
 
 step_same : (w : Work) (items : List Item) (env : List ℤ) → bare w ≡ work_of items → bare_next (step w env) ≡ bare_next (step (work_of items) env)
 step_same w items env is = sym (bare_step w env) ∙ ap (λ (z : Work). bare_next (step z env)) is
 
 abbrev RestOf : ℕ → ℕ → run.Next → Option Outcome
-RestOf left marks x = seen_next evaluates_narrow (Some outcome.Wide) at_event returned (interpreted left) marks x
+RestOf left marks x = seen_next evaluates_fitting (Some outcome.Wide) at_event returned (interpreted left) marks x
 
 -- a step that is taken, as the run's
 record Taken (f : Program) (o : Outcome) (left : ℕ) (events : List Event) (marks : ℕ) (x y : run.Next) : Type 0 where
@@ -221,7 +221,7 @@ record Taken (f : Program) (o : Outcome) (left : ℕ) (events : List Event) (mar
   pub rest : o ≡ after_events events (RestOf left marks x)
 
 taken : (f : Program) (o : Outcome) (left left' : ℕ) (events : List Event) (items : List Item) (env : List ℤ) (y : run.Next) → left ≡ suc left' → (i : Interprets f o left events items env)
-    → evaluates_narrow (evaluated (work_of items)) env ≡ true → bare_next (step (work_of items) env) ≡ y → Taken f o left' events i.marks (step i.work env) y
+    → evaluates_fitting (evaluated (work_of items)) env ≡ true → bare_next (step (work_of items) env) ≡ y → Taken f o left' events i.marks (step i.work env) y
 taken f o left left' events items env y left_is i narrow is = record {
   is = step_same i.work items env i.bare_is ∙ is;
   placed = ahead_next f i.work env i.placed;

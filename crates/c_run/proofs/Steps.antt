@@ -11,7 +11,7 @@ use Rattle.c_ast.specs.Tree as tree
 use Rattle.c_ast.specs.Tree.{Expression, Statements}
 use Rattle.c_ast.specs.Value.{eval, is_nonzero}
 use Rattle.c_ast.specs.View.{expression_of, put_in_front, statements_of}
-use Rattle.c_ast.specs.Narrow.{all_narrow, only_if, narrow_value}
+use Rattle.c_ast.specs.FitsRun.{parts_fit_run, only_if, fitting_value}
 use Rattle.c_ast.specs.Step as run
 use Rattle.c_ast.specs.Step.{LoopParts, Run, Test, Cond, Tail, Work, past_tail, to_tail, tested, entered, turned, step}
 use Rattle.c_ast.proofs.Fronts.{front-Loop, front-Break, front-Continue, front-Mark, front-Block}
@@ -47,13 +47,13 @@ none_of (s ∷ stmts) below = absurd (omega arith)
 
 -- a value that was handed out is the expression's
 pub record IsValue (e : Expression) (env : List ℤ) (value : ℤ) : Type 0 where
-  pub narrow : all_narrow e env ≡ true
+  pub narrow : parts_fit_run e env ≡ true
   pub is : value ≡ eval e env
 
-pub value_some : (e : Expression) (env : List ℤ) (value : ℤ) → Some value ≡ narrow_value e env → IsValue e env value
-value_some e env value given = on (all_narrow e env) refl given
+pub value_some : (e : Expression) (env : List ℤ) (value : ℤ) → Some value ≡ fitting_value e env → IsValue e env value
+value_some e env value given = on (parts_fit_run e env) refl given
   where
-    on : (narrow : Bool) → all_narrow e env ≡ narrow → Some value ≡ only_if narrow (eval e env) → IsValue e env value
+    on : (narrow : Bool) → parts_fit_run e env ≡ narrow → Some value ≡ only_if narrow (eval e env) → IsValue e env value
     on true is given = record { narrow = is; is = (cc) }
     on false is given = cc
 
@@ -68,7 +68,7 @@ pub takes-Nil : (stmts : List Stmt) (env : List ℤ) (items : List Item) → sta
 takes-Nil stmts env items is = along stmts _ _ _ env _ next.Goes is (refl, ap (λ (z : Work). run.Goes z env) (bare_work_of items).is)
 
 pub takes-Set : (others : List Stmt) (x : ℕ) (e : Expr) (env : List ℤ) (value : ℤ) (items new : List Item)
-    → Some value ≡ narrow_value (expression_of e) env → work_of new ≡ Run [] (statements_of others) ∷ work_of items
+    → Some value ≡ fitting_value (expression_of e) env → work_of new ≡ Run [] (statements_of others) ∷ work_of items
     → TakesStep (Run [] (tree.Set x (expression_of e) (statements_of others)) ∷ work_of items) env next.Goes (work_of new) (slice_set env x value)
 takes-Set others x e env value items new given put =
     let v = value_some (expression_of e) env value given in
@@ -77,7 +77,7 @@ takes-Set others x e env value items new given put =
     (v.narrow, (rw (put, bared, value_is)))
 
 pub takes-If : (others a b c : List Stmt) (e : Expr) (env : List ℤ) (value : ℤ) (items mid new : List Item)
-    → Some value ≡ narrow_value (expression_of e) env → work_of mid ≡ Run [] (statements_of others) ∷ work_of items
+    → Some value ≡ fitting_value (expression_of e) env → work_of mid ≡ Run [] (statements_of others) ∷ work_of items
     → statements_of c ≡ cond (is_nonzero value) (statements_of a) (statements_of b) → work_of new ≡ Run [] (statements_of c) ∷ work_of mid
     → TakesStep (Run [] (tree.If (expression_of e) (statements_of a) (statements_of b) (statements_of others)) ∷ work_of items) env next.Goes (work_of new) env
 takes-If others a b c e env value items mid new given put chosen put' =
@@ -150,7 +150,7 @@ takes-Test old others new loop mark env got is mark_is told put = along_work old
     on (Some k) next.Wide mark_is told = absurd told
 
 pub takes-Cond : (old : Work) (others new : List Item) (parts : Parts) (env : List ℤ) (value : ℤ) (turns : Bool) → old ≡ Cond [] (loop_of parts) ∷ work_of others
-    → Some value ≡ narrow_value (expression_of parts.cond.now) env → is_nonzero value ≡ turns → work_of new ≡ turned turns [] (loop_of parts) (work_of others)
+    → Some value ≡ fitting_value (expression_of parts.cond.now) env → is_nonzero value ≡ turns → work_of new ≡ turned turns [] (loop_of parts) (work_of others)
     → TakesStep old env next.Goes (work_of new) env
 takes-Cond old others new parts env value turns is given decides put =
     let v = value_some (expression_of parts.cond.now) env value given in

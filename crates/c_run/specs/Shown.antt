@@ -7,7 +7,7 @@ use Rattle.c_ast.specs.declared.interpreter.Next.{Next}
 use Rattle.c_ast.specs.declared.interpreter.Next.TheVariants as next
 use Rattle.c_ast.specs.Tree.{Expression}
 use Rattle.c_ast.specs.View.{expression_of, statements_of}
-use Rattle.c_ast.specs.Narrow.{all_narrow}
+use Rattle.c_ast.specs.FitsRun.{parts_fit_run}
 use Rattle.c_ast.specs.Step as run
 use Rattle.c_ast.specs.Step.{LoopParts, Run, Test, Cond, Tail, Work, past_tail, to_tail, step, evaluated}
 
@@ -42,16 +42,16 @@ bare_next (run.Passes mark work env) = run.Passes mark (bare work) env
 bare_next (run.Ends value) = run.Ends value
 
 -- whether each part of what is evaluated has a value below 2^100 in size
-abbrev pub evaluates_narrow : Option Expression → List ℤ → Bool
-evaluates_narrow None env = true
-evaluates_narrow (Some e) env = all_narrow e env
+abbrev pub evaluates_fitting : Option Expression → List ℤ → Bool
+evaluates_fitting None env = true
+evaluates_fitting (Some e) env = parts_fit_run e env
 
 -- The interpreter's step from one work and environment to the next is the run's, scopes aside, or meets a wide value.
 abbrev pub TakesStep : Work → List ℤ → Next → Work → List ℤ → Type 0
-TakesStep old env next.Goes new env' = (evaluates_narrow (evaluated old) env ≡ true) × (bare_next (step old env) ≡ run.Goes new env')
-TakesStep old env (next.Passes mark) new env' = (evaluates_narrow (evaluated old) env ≡ true) × (bare_next (step old env) ≡ run.Passes mark new env')
-TakesStep old env (next.Ends value) new env' = (evaluates_narrow (evaluated old) env ≡ true) × (bare_next (step old env) ≡ run.Ends value)
-TakesStep old env next.Wide new env' = evaluates_narrow (evaluated old) env ≡ false
+TakesStep old env next.Goes new env' = (evaluates_fitting (evaluated old) env ≡ true) × (bare_next (step old env) ≡ run.Goes new env')
+TakesStep old env (next.Passes mark) new env' = (evaluates_fitting (evaluated old) env ≡ true) × (bare_next (step old env) ≡ run.Passes mark new env')
+TakesStep old env (next.Ends value) new env' = (evaluates_fitting (evaluated old) env ≡ true) × (bare_next (step old env) ≡ run.Ends value)
+TakesStep old env next.Wide new env' = evaluates_fitting (evaluated old) env ≡ false
 
 -- the tail at which a `continue` goes on, in front of what is behind it
 abbrev pub with_tail : Option Parts → Work → Work

@@ -1,22 +1,22 @@
 -- All variables that statements and works set and read are among the first n.
 use Rattle.std.specs.Prelude.{ℕ, ◌<◌, [], ◌∷◌}
 use Rattle.c_ast.specs.Tree.{Statements, Nil, Set, If, Loop, Break, Continue, Return, Mark, Block}
-use Rattle.c_ast.specs.Value.{VariablesBelow}
+use Rattle.c_ast.specs.Value.{CanEvaluate}
 use Rattle.c_ast.specs.Step.{LoopParts, Item, Run, Test, Cond, Tail, Work}
 
 abbrev pub AreWithin : ℕ → Statements → Type 0
 AreWithin n Nil = Unit {0}
-AreWithin n (Set x e others) = (x < n) × VariablesBelow n e × AreWithin n others
-AreWithin n (If e a b others) = VariablesBelow n e × AreWithin n a × AreWithin n b × AreWithin n others
-AreWithin n (Loop mark cond body step test_first others) = VariablesBelow n cond × AreWithin n body × AreWithin n step × AreWithin n others
+AreWithin n (Set x e others) = (x < n) × CanEvaluate n e × AreWithin n others
+AreWithin n (If e a b others) = CanEvaluate n e × AreWithin n a × AreWithin n b × AreWithin n others
+AreWithin n (Loop mark cond body step test_first others) = CanEvaluate n cond × AreWithin n body × AreWithin n step × AreWithin n others
 AreWithin n (Break others) = AreWithin n others
 AreWithin n (Continue others) = AreWithin n others
-AreWithin n (Return e others) = VariablesBelow n e × AreWithin n others
+AreWithin n (Return e others) = CanEvaluate n e × AreWithin n others
 AreWithin n (Mark mark others) = AreWithin n others
 AreWithin n (Block a others) = AreWithin n a × AreWithin n others
 
 pub record IsLoopWithin (n : ℕ) (loop : LoopParts) : Type 0 where
-  pub cond : VariablesBelow n loop.cond
+  pub cond : CanEvaluate n loop.cond
   pub body : AreWithin n loop.body
   pub step : AreWithin n loop.step
 

@@ -3,11 +3,11 @@
 ghost use Rattle.std.specs.Prelude.{◌≡◌, [], ◌∷◌, if◌then◌else◌, length, slice_index_or, pos, OnOk, IfOk};
 ghost use Rattle.c_ast.specs.Tree as tree;
 ghost use Rattle.c_ast.specs.View.{expression_of, statements_of};
-ghost use Rattle.c_ast.specs.Value.{VariablesBelow, is_nonzero};
+ghost use Rattle.c_ast.specs.Value.{CanEvaluate, is_nonzero};
 ghost use Rattle.c_ast.specs.Step.{Run, Tail, entered, to_tail, first_variables, spread};
 ghost use Rattle.c_ast.specs.Function.{program_of};
 ghost use Rattle.c_ast.specs.Scope.{IsPlace};
-ghost use Rattle.c_ast.specs.Interpreted.{IsEvent, outcome_within};
+ghost use Rattle.c_ast.specs.Outcome.{IsEvent, outcome_within};
 ghost use Rattle.c_ast.specs.Shown.{loop_of, item_of, work_of, TakesStep, IsTested, Cuts};
 ghost use Rattle.c_ast.specs.Within.{AreWithin, IsWorkWithin};
 
@@ -16,17 +16,6 @@ use crate::{Event, Expr, Func, Place, Stmt, Trace, value_of};
 use sqlite_items::Items;
 use std::alloc::{AllocError, Global};
 use std::collections::VecDeque;
-
-/// What comes of a run.
-#[derive(Debug, Drop)]
-pub enum Outcome {
-    /// The run ended, and this is its trace.
-    Returned(Trace),
-    /// A part of an evaluated expression, also one that C would skip, has a value of 2^100 or more in size.
-    Wide,
-    /// Neither happened within the steps; or, where marks are limited, one mark more was to be passed.
-    CutOff,
-}
 
 /// The parts of a loop that a turn uses.
 #[derive(Clone, Copy)]
@@ -179,7 +168,7 @@ fn run_if<'a>(
     others: &'a [Stmt],
     environment: &[i128],
 ) -> Result<Next, AllocError>
-    requires { VariablesBelow (length environment.now) (expression_of e.now) }
+    requires { CanEvaluate (length environment.now) (expression_of e.now) }
     ensures { IfOk result (λ next. TakesStep
         (Run [] (tree.If (expression_of e.now) (statements_of a.now) (statements_of b.now) (statements_of others.now))
         ∷ work_of work.old.items) environment.now next (work_of work.new.items) environment.now) }
@@ -278,27 +267,6 @@ fn step<'a>(work: &mut VecDeque<Item<'a>>, environment: &mut [i128]) -> Result<N
             Ok(Next::Goes)
         }
     }
-}
-
-fn input_at(inputs: &[i128], x: usize) -> i128
-    ensures { result ≡ slice_index_or inputs.now x (pos 0) }
-{
-    if x < inputs.len() { inputs[x] } else { 0 }
-}
-
-/// The values of all variables as a run begins: the inputs, and 0 for all that are no parameters.
-pub fn first_environment(
-    alloc: Global,
-    vars: usize,
-    inputs: &[i128],
-) -> Result<Vec<i128>, AllocError>
-    ensures { IfOk result (λ values. values.items ≡ spread (first_variables (length inputs.now)) vars inputs.now) }
-{
-    let mut values = Vec::new(alloc);
-    for x in 0..vars {
-        values.push(input_at(inputs, x))?;
-    }
-    Ok(values)
 }
 
 /// The event of passing a mark with these values of all variables.

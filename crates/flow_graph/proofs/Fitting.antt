@@ -2,7 +2,7 @@
 use Rattle.std.proofs.Common.{◌≡◌, ℕ, zero, suc, ◌+◌, ◌<◌, ◌≤◌, Bool, true, false, cond, ◌⊎◌, inl, inr, [], ◌∷◌, ◌++◌, length, Option, Some, None, refl, sym, ap, ◌∙◌, subst, arith, length-append, length-set}
 use Rattle.c_ast.specs.Tree as tree
 use Rattle.c_ast.specs.Tree.{Expression, Statements}
-use Rattle.c_ast.specs.Value.{VariablesBelow}
+use Rattle.c_ast.specs.Value.{CanEvaluate}
 use Rattle.c_ast.specs.Step.{Scope, is_in}
 use Rattle.c_ast.specs.Formed.{BeginsWithMark, PassesMark, AreFormed}
 use Rattle.c_ast.proofs.Scoped.{IsBelow, over_below, set_below, more_below}
@@ -94,7 +94,7 @@ lay_begins (tree.Block x c) slots m b t h = let behind = lay c slots m b t in la
 
 -- ---- a loop's test
 
-module _ (vars : ℕ) (old more slots : Slots) (e : Expression) (body out : ℕ) (is : slots ≡ old ++ None ∷ more) (fit : SlotsFit vars slots) (below : VariablesBelow vars e) (inside : body < length slots) (outside : out < length old) where
+module _ (vars : ℕ) (old more slots : Slots) (e : Expression) (body out : ℕ) (is : slots ≡ old ++ None ∷ more) (fit : SlotsFit vars slots) (below : CanEvaluate vars e) (inside : body < length slots) (outside : out < length old) where
   pub test_fits : (mark : Option ℕ) (stmts : Statements) → PassesMark mark stmts → (BeginsWithMark stmts → IsMark (table_of slots body)) → SlotsFit vars (filled mark slots (length old) (Branch e body out))
   test_fits None stmts passes begins =
       let first = Branch e body out in

@@ -9,7 +9,7 @@ use Rattle.c_ast.specs.declared.expr.Expr.TheVariants.{outs-Num}
 use Rattle.c_ast.specs.declared.stmt.Stmt.{Stmt}
 use Rattle.c_ast.specs.declared.place.Place.{Place}
 use Rattle.c_ast.specs.declared.place.Place.TheVariants as place
-use Rattle.c_ast.specs.declared.interpreter.Outcome.TheVariants as outcome
+use Rattle.c_ast.specs.declared.trace.Outcome.TheVariants as outcome
 use Rattle.c_ast.specs.Tree as tree
 use Rattle.c_ast.specs.Tree.{Expression, Statements, Program}
 use Rattle.c_ast.specs.View.{expression_level, expression_of, statements_of}
@@ -20,8 +20,8 @@ use Rattle.c_ast.specs.Trace.{with_event, no_event}
 use Rattle.c_ast.specs.Segment.{StandsIn, Follows, GoesOnFrom, at_mark, at_exit}
 use Rattle.c_ast.specs.Formed.{marks}
 use Rattle.c_ast.specs.Scope.{IsPlace, variables_in}
-use Rattle.c_ast.specs.Shown.{evaluates_narrow}
-use Rattle.c_ast.specs.Interpreted.{returned}
+use Rattle.c_ast.specs.Shown.{evaluates_fitting}
+use Rattle.c_ast.specs.Outcome.{returned}
 use Rattle.c_ast.specs.Judged.{at_most}
 use Rattle.c_ast.proofs.MarksAhead.{IsAhead, ahead_at_start, ahead_after}
 use Rattle.c_ast.proofs.Lengths.{length-spread}
@@ -305,7 +305,7 @@ module _ (f : Function) (is : IsFunction f) (ops : List Op) (entry : ℕ) (out :
     always_accepts : AcceptsNone always
     always_accepts = record { by = λ env. refl }
 
-    narrow_accepts : AcceptsNone evaluates_narrow
+    narrow_accepts : AcceptsNone evaluates_fitting
     narrow_accepts = record { by = λ env. refl }
 
     pub is_graph : IsGraphOf (program_of f) (record { params = f.params; vars = length f.vars; ops = ops; entry = entry; stops = stops })
@@ -323,8 +323,8 @@ module _ (f : Function) (is : IsFunction f) (ops : List Op) (entry : ℕ) (out :
         λ h. (let p = a_place l h.from in let o = to_source always None at_mark at_exit always_accepts l p.work p.from e (l', e') h.steps h.met in record { work = p.work; from = p.from; steps = o.steps; met = o.is }),
       );
       judged = λ inputs limit result. (
-        λ h. (let o = begin_graph evaluates_narrow (Some outcome.Wide) (at_most limit) returned narrow_accepts inputs result h.steps h.is in record { steps = o.steps; is = o.is }),
-        λ h. (let o = begin_source evaluates_narrow (Some outcome.Wide) (at_most limit) returned narrow_accepts inputs result h.steps h.is in record { steps = o.steps; is = o.is }),
+        λ h. (let o = begin_graph evaluates_fitting (Some outcome.Wide) (at_most limit) returned narrow_accepts inputs result h.steps h.is in record { steps = o.steps; is = o.is }),
+        λ h. (let o = begin_source evaluates_fitting (Some outcome.Wide) (at_most limit) returned narrow_accepts inputs result h.steps h.is in record { steps = o.steps; is = o.is }),
       );
     }
 

@@ -2,7 +2,7 @@
 use Rattle.std.specs.Prelude.{◌≡◌, ℕ, ◌↔◌, List, ℤ}
 use Rattle.c_ast.specs.declared.place.Place.{Place}
 use Rattle.c_ast.specs.declared.trace.Trace.{Trace}
-use Rattle.c_ast.specs.declared.interpreter.Outcome.{Outcome}
+use Rattle.c_ast.specs.declared.trace.Outcome.{Outcome}
 use Rattle.c_ast.specs.Tree.{Program}
 use Rattle.c_ast.specs.Trace.{IsTrace}
 use Rattle.c_ast.specs.Segment.{IsSegment}

@@ -1,7 +1,7 @@
 -- What holds of every flow graph.
 use Rattle.std.specs.Prelude.{◌≡◌, ℕ, ◌<◌, ◌≤◌, ◌^◌, ◌⊎◌, List, length, map, All, Option, Some}
 use Rattle.std.specs.List.Sorted.{IsStrictlyIncreasing}
-use Rattle.c_ast.specs.Value.{VariablesBelow}
+use Rattle.c_ast.specs.Value.{CanEvaluate}
 use Rattle.flow_graph.specs.declared.stop.Stop.{Stop}
 use Rattle.flow_graph.specs.Operation.{Operation, Set, Branch, Mark, Return}
 use Rattle.flow_graph.specs.FlowGraph.{FlowGraph, operation_at, stop_of}
@@ -18,10 +18,10 @@ Leads at count node next = (next < count) × ((next < node) ⊎ IsMark (at next)
 -- The operation of the node is over these numbers of nodes and variables, and its edges lead down or to marks; one out
 -- of a mark may lead anywhere.
 abbrev pub Fits : (ℕ → Option Operation) → ℕ → ℕ → ℕ → Operation → Type 0
-Fits at count vars node (Set x e next) = (x < vars) × VariablesBelow vars e × Leads at count node next
-Fits at count vars node (Branch e first second) = VariablesBelow vars e × Leads at count node first × Leads at count node second
+Fits at count vars node (Set x e next) = (x < vars) × CanEvaluate vars e × Leads at count node next
+Fits at count vars node (Branch e first second) = CanEvaluate vars e × Leads at count node first × Leads at count node second
 Fits at count vars node (Mark mark next) = next < count
-Fits at count vars node (Return e) = VariablesBelow vars e
+Fits at count vars node (Return e) = CanEvaluate vars e
 
 -- The graph knows the mark, and the node that comes next.
 pub record IsStop (stops : List Stop) (mark next : ℕ) : Type 0 where

@@ -6,14 +6,14 @@ use Rattle.std.proofs.Common.{◌≡◌, ℕ, suc, ◌+◌, ◌*◌, ◌-◌, �
 use Rattle.std.specs.Option.{option_map}
 use Rattle.std.specs.Prelude.{slice_get, slice_set, is_some}
 use Rattle.c_ast.specs.declared.trace.Event.{Event}
-use Rattle.c_ast.specs.declared.interpreter.Outcome.{Outcome}
-use Rattle.c_ast.specs.declared.interpreter.Outcome.TheVariants as outcome
+use Rattle.c_ast.specs.declared.trace.Outcome.{Outcome}
+use Rattle.c_ast.specs.declared.trace.Outcome.TheVariants as outcome
 use Rattle.c_ast.specs.declared.place.Place.TheVariants as place
 use Rattle.c_ast.specs.Value.{eval, is_nonzero}
-use Rattle.c_ast.specs.Narrow.{is_narrow}
+use Rattle.c_ast.specs.FitsRun.{fits_run}
 use Rattle.c_ast.specs.Step.{first_variables, spread}
-use Rattle.c_ast.specs.Shown.{evaluates_narrow}
-use Rattle.c_ast.specs.Interpreted.{with_first, returned}
+use Rattle.c_ast.specs.Shown.{evaluates_fitting}
+use Rattle.c_ast.specs.Outcome.{with_first, returned}
 use Rattle.c_ast.proofs.Lengths.{length-spread}
 use Rattle.c_ast.specs.Judged.{at_most}
 use Rattle.flow_graph.specs.declared.op.Op.{Op}
@@ -90,7 +90,7 @@ record Goes (at : ℕ → Option Operation) (count : ℕ) (op : Operation) (node
   size : length new ≡ length env
   narrow : AreNarrow new
 
-step_goes : (at : ℕ → Option Operation) (count vars node after : ℕ) (op : Operation) (env new : List ℤ) → Fits at count vars node op → AreNarrow env → evaluates_narrow (operand op) env ≡ true → turn op env ≡ graph.Goes after new → Goes at count op node env after new
+step_goes : (at : ℕ → Option Operation) (count vars node after : ℕ) (op : Operation) (env new : List ℤ) → Fits at count vars node op → AreNarrow env → evaluates_fitting (operand op) env ≡ true → turn op env ≡ graph.Goes after new → Goes at count op node env after new
 step_goes at count vars node after (Set x e n) env new fits narrow holds is =
     let after_is : n ≡ after = cc in
     let new_is : slice_set env x (eval e env) ≡ new = cc in
@@ -127,11 +127,11 @@ step_passes at count vars node mark after (Mark k n) env new fits is =
     record { op_is = ap (λ (z : ℕ). Mark z n) mark_is ∙ ap (Mark mark) after_is; env_is = (cc); below = subst (λ (z : ℕ). z < count) after_is fits }
 step_passes at count vars node mark after (Return e) env new fits is = absurd cc
 
-result_narrow : (op : Operation) (env : List ℤ) (value : ℤ) → evaluates_narrow (operand op) env ≡ true → turn op env ≡ graph.Ends value → is_narrow value ≡ true
+result_narrow : (op : Operation) (env : List ℤ) (value : ℤ) → evaluates_fitting (operand op) env ≡ true → turn op env ≡ graph.Ends value → fits_run value ≡ true
 result_narrow (Set x e n) env value holds is = absurd cc
 result_narrow (Branch e n m) env value holds is = absurd cc
 result_narrow (Mark k n) env value holds is = absurd cc
-result_narrow (Return e) env value holds is = let same : eval e env ≡ value = cc in subst (λ (v : ℤ). is_narrow v ≡ true) same (value_narrow e env holds)
+result_narrow (Return e) env value holds is = let same : eval e env ≡ value = cc in subst (λ (v : ℤ). fits_run v ≡ true) same (value_narrow e env holds)
 
 -- ---- the rest of a run
 
@@ -143,7 +143,7 @@ pub record Runs (g : FlowGraph) (inputs : List ℤ) (limit left : ℕ) (events :
   pub narrow : AreNarrow env
   pub passed : All (λ event. AreNarrow event.values) events
   pub within : left ≤ limit
-  pub rest : (steps : ℕ) (o : Option Outcome) (whole : Outcome) → seen_from evaluates_narrow (Some outcome.Wide) (at_most limit) returned g steps (limit - left) node env ≡ o
+  pub rest : (steps : ℕ) (o : Option Outcome) (whole : Outcome) → seen_from evaluates_fitting (Some outcome.Wide) (at_most limit) returned g steps (limit - left) node env ≡ o
       → resumed events o ≡ Some whole → IsGraphJudged g inputs limit whole
 
 abbrev pub measure : FlowGraph → ℕ → ℕ → ℕ
@@ -162,9 +162,9 @@ begins g inputs env limit node arity narrow env_is node_is below =
         steps = steps;
         is =
             let none : limit - limit ≡ 0 = omega arith in
-            ap (λ (n : ℕ). seen_from evaluates_narrow (Some outcome.Wide) (at_most limit) returned g steps 0 n (spread (first_variables g.params) g.vars inputs)) (sym node_is)
-            ∙ ap (seen_from evaluates_narrow (Some outcome.Wide) (at_most limit) returned g steps 0 node) (sym start)
-            ∙ ap (λ (m : ℕ). seen_from evaluates_narrow (Some outcome.Wide) (at_most limit) returned g steps m node env) (sym none) ∙ seen ∙ is;
+            ap (λ (n : ℕ). seen_from evaluates_fitting (Some outcome.Wide) (at_most limit) returned g steps 0 n (spread (first_variables g.params) g.vars inputs)) (sym node_is)
+            ∙ ap (seen_from evaluates_fitting (Some outcome.Wide) (at_most limit) returned g steps 0 node) (sym start)
+            ∙ ap (λ (m : ℕ). seen_from evaluates_fitting (Some outcome.Wide) (at_most limit) returned g steps m node env) (sym none) ∙ seen ∙ is;
       };
     }
 
@@ -177,10 +177,10 @@ module _ {g : FlowGraph} {inputs : List ℤ} {limit left : ℕ} {events : List E
   here = ap (option_map operation_of) found
 
   abbrev S : ℕ → ℕ → ℕ → List ℤ → Option Outcome
-  S = seen_from evaluates_narrow (Some outcome.Wide) (at_most limit) returned g
+  S = seen_from evaluates_fitting (Some outcome.Wide) (at_most limit) returned g
 
   abbrev T : ℕ → ℕ → Turn → Option Outcome
-  T n m t = seen_turn evaluates_narrow (Some outcome.Wide) (at_most limit) returned g (S n) m t
+  T n m t = seen_turn evaluates_fitting (Some outcome.Wide) (at_most limit) returned g (S n) m t
 
   fits : Fits (operation_at g) (length g.ops) g.vars node op
   fits = formed.fit node op here
@@ -188,13 +188,13 @@ module _ {g : FlowGraph} {inputs : List ℤ} {limit left : ℕ} {events : List E
   pub step_ready : VariablesAre (length env) op
   step_ready = subst (λ (n : ℕ). VariablesAre n op) (sym r.size) (variables_are (operation_at g) (length g.ops) g.vars node op fits)
 
-  seen_narrow : (n m : ℕ) (t : Turn) → evaluates_narrow (operand op) env ≡ true → turn op env ≡ t → S (suc n) m node env ≡ T n m t
+  seen_narrow : (n m : ℕ) (t : Turn) → evaluates_fitting (operand op) env ≡ true → turn op env ≡ t → S (suc n) m node env ≡ T n m t
   seen_narrow n m t holds is =
-      ap (λ (o : Option Operation). seen_at evaluates_narrow (Some outcome.Wide) (at_most limit) returned g (S n) m o env) here ∙ ap (λ (b : Bool). cond b (T n m (turn op env)) (Some outcome.Wide)) holds ∙ ap (T n m) is
+      ap (λ (o : Option Operation). seen_at evaluates_fitting (Some outcome.Wide) (at_most limit) returned g (S n) m o env) here ∙ ap (λ (b : Bool). cond b (T n m (turn op env)) (Some outcome.Wide)) holds ∙ ap (T n m) is
 
-  seen_wide : (n m : ℕ) → evaluates_narrow (operand op) env ≡ false → S (suc n) m node env ≡ Some outcome.Wide
+  seen_wide : (n m : ℕ) → evaluates_fitting (operand op) env ≡ false → S (suc n) m node env ≡ Some outcome.Wide
   seen_wide n m fails =
-      ap (λ (o : Option Operation). seen_at evaluates_narrow (Some outcome.Wide) (at_most limit) returned g (S n) m o env) here ∙ ap (λ (b : Bool). cond b (T n m (turn op env)) (Some outcome.Wide)) fails
+      ap (λ (o : Option Operation). seen_at evaluates_fitting (Some outcome.Wide) (at_most limit) returned g (S n) m o env) here ∙ ap (λ (b : Bool). cond b (T n m (turn op env)) (Some outcome.Wide)) fails
 
   module _ (new : List ℤ) {after : ℕ} {result : Next} (is : result ≡ next.Goes after) (taken : TakesStep op env result new) where
     going_taken : TakesStep op env (next.Goes after) new

@@ -1,6 +1,6 @@
 -- A law of what runs are judged to be.
 use Rattle.std.specs.Prelude.{◌≡◌, ℕ, List, ℤ}
-use Rattle.c_ast.specs.declared.interpreter.Outcome.{Outcome}
+use Rattle.c_ast.specs.declared.trace.Outcome.{Outcome}
 use Rattle.flow_graph.specs.FlowGraph.{FlowGraph}
 use Rattle.flow_graph.specs.Judged.{IsGraphJudged}
 

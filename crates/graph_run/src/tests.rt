@@ -2,7 +2,7 @@
 ghost use Rattle.std.specs.Prelude.{◌≡◌, length, pos, IfOk, Some, true};
 ghost use Rattle.c_ast.specs.declared.expr.BinOp.TheVariants.{Add};
 ghost use Rattle.c_ast.specs.Tree as tree;
-ghost use Rattle.c_ast.specs.Narrow.{is_narrow};
+ghost use Rattle.c_ast.specs.FitsRun.{fits_run};
 ghost use Rattle.c_ast.specs.View.{expression_of, statements_of};
 ghost use Rattle.c_ast.specs.Function.{program_of};
 ghost use Rattle.c_ast.specs.Sums.{sums};
@@ -145,7 +145,7 @@ fn graph_of(alloc: Global, func: &Func) -> Result<Graph, AllocError>
 
 /// What comes of a run of the sum.
 fn run_sum(alloc: Global, input: i128, marks: u32) -> Result<String, AllocError>
-    requires { is_narrow input ≡ true }
+    requires { fits_run input ≡ true }
 {
     let graph = graph_of(alloc, &sum(alloc)?)?;
     shown(alloc, &run(alloc, &graph, &[input], marks))
@@ -153,7 +153,7 @@ fn run_sum(alloc: Global, input: i128, marks: u32) -> Result<String, AllocError>
 
 /// What comes of a run of the double.
 fn run_double(alloc: Global, input: i128) -> Result<String, AllocError>
-    requires { is_narrow input ≡ true }
+    requires { fits_run input ≡ true }
 {
     let graph = graph_of(alloc, &double(alloc)?)?;
     shown(alloc, &run(alloc, &graph, &[input], 0))

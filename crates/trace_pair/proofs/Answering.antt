@@ -1,7 +1,7 @@
 -- A sample has one answer, and the traces of a pair are those of its functions.
 use Rattle.std.proofs.Common.{◌≡◌, ℕ, length, List, ℤ, refl, sym, ap, ◌∙◌, subst}
 use Rattle.std.proofs.lemmas.List.Elements.{All-same}
-use Rattle.c_ast.specs.declared.interpreter.Outcome.TheVariants as outcome
+use Rattle.c_ast.specs.declared.trace.Outcome.TheVariants as outcome
 use Rattle.c_ast.specs.declared.place.Side.{Side}
 use Rattle.c_ast.specs.declared.place.Side.TheVariants.{A, B}
 use Rattle.c_ast.specs.declared.trace.Trace.{Trace}

@@ -9,7 +9,7 @@ use Rattle.std.proofs.lemmas.List.FromFn.{length-map-range_with_len}
 use Rattle.std.proofs.Common.{◌∙◌}
 use Rattle.rand_pcg.specs.Lcg.{Lcg}
 use Rattle.c_ast.specs.Bounds.{Bounds}
-use Rattle.c_ast.specs.Narrow.{is_narrow}
+use Rattle.c_ast.specs.FitsRun.{fits_run}
 use Rattle.graph_run.specs.Answers.{AreNarrow}
 use Rattle.trace_pair.specs.Inputs.{grid_size, grid_value, word_value, words, generator_of, input_of, IsNear}
 use Rattle.trace_pair.proofs.Grid.{grid_is_near}
@@ -35,8 +35,8 @@ near_input_of settings index arity = on (nat_lt index (grid_size arity))
     on true = grid_is_near index arity
     on false = words_are_near arity (generator_of settings.seed index)
 
-near_is_narrow : (value : ℤ) → IsNear value → is_narrow value ≡ true
+near_is_narrow : (value : ℤ) → IsNear value → fits_run value ≡ true
 near_is_narrow value near = grind (arith, nat_tests)
 
 pub near_are_narrow : (values : List ℤ) → All IsNear values → AreNarrow values
-near_are_narrow values near = All-weaker IsNear (λ value. is_narrow value ≡ true) near_is_narrow values near
+near_are_narrow values near = All-weaker IsNear (λ value. fits_run value ≡ true) near_is_narrow values near

@@ -1,6 +1,6 @@
 -- Which samples are pairs of runs, and why the others are skipped.
 use Rattle.std.specs.Prelude.{◌≡◌, ◌≢◌, ℕ, List, ℤ, Result, Ok, Err}
-use Rattle.c_ast.specs.declared.interpreter.Outcome.TheVariants.{Returned, CutOff, Wide}
+use Rattle.c_ast.specs.declared.trace.Outcome.TheVariants.{Returned, CutOff, Wide}
 use Rattle.c_ast.specs.declared.place.Side.{Side}
 use Rattle.c_ast.specs.declared.place.Side.TheVariants.{A, B}
 use Rattle.c_ast.specs.declared.trace.Trace.{Trace}

@@ -6,7 +6,7 @@ use Rattle.c_ast.specs.Step.{Run, first_variables, spread}
 use Rattle.c_ast.specs.View.{statements_of}
 use Rattle.c_ast.specs.Shown.{work_of, TakesStep}
 use Rattle.c_ast.specs.Function.{program_of}
-use Rattle.c_ast.specs.Interpreted.{outcome_within}
+use Rattle.c_ast.specs.Outcome.{outcome_within}
 use Rattle.c_ast.proofs.Interpreting.{begins, step_within, goes, passes, passed_place, passed_on, ends, meets_wide}
 use Rattle.c_ast.proofs.interpreter.interpret.Goals as goal
 use Rattle.c_ast.proofs.interpreter.interpret.Goals.{in-Goes, in-Passes+in_ok-event-in-Passes+in_ok-push-in-Passes}

@@ -1,6 +1,6 @@
 use Rattle.std.proofs.Common.{◌-◌}
 use Rattle.c_ast.specs.Function.{program_of}
-use Rattle.c_ast.specs.Interpreted.{outcome_within}
+use Rattle.c_ast.specs.Outcome.{outcome_within}
 use Rattle.c_ast.proofs.Interpreting.{Interprets}
 use Rattle.c_ast.proofs.interpreter.interpret.Given as goal
 
