@@ -8,16 +8,23 @@
 //! loop (`expression`).
 #![tactic(auto)]
 
-mod condition;
-mod declaration;
+// Limits, refusals, and what stands at the front of tokens.
 mod depth;
-mod expression;
 mod fault;
 mod front;
 mod name;
+
+// Expressions.
+mod expression;
 mod operators;
+
+// Declarations and statements.
+mod declaration;
 mod simple;
 mod statement;
+
+// All of the tokens: one expression, or a file.
+mod condition;
 #[cfg(test)]
 mod tests;
 mod unit;
