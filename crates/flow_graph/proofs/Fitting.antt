@@ -5,7 +5,8 @@ use Rattle.c_ast.specs.Tree.{Expression, Statements}
 use Rattle.c_ast.specs.Value.{CanEvaluate}
 use Rattle.c_ast.specs.Step.{Scope, is_in}
 use Rattle.c_ast.specs.Formed.{BeginsWithMark, PassesMark, AreFormed}
-use Rattle.c_ast.proofs.Scoped.{IsBelow, over_below, set_below, more_below}
+use Rattle.c_ast.specs.Environments.{IsBelow}
+use Rattle.c_ast.proofs.Laws.{set_stays_below, over_can_evaluate, set_can_evaluate}
 use Rattle.flow_graph.specs.Operation.{Operation, Set, Branch, Mark, Return}
 use Rattle.flow_graph.specs.Layout.{Slots, added, filled, lay}
 use Rattle.flow_graph.specs.WellFormed.{IsMark, Leads, Fits}
@@ -137,8 +138,8 @@ pub lay_fits : (c : Statements) (vars : ℕ) (s : Scope) (in_loop : Bool) (slots
 lay_fits tree.Nil vars s in_loop slots m b t below formed ready = record { fit = ready.fit; within = ready.next }
 lay_fits (tree.Set x e c) vars s in_loop slots m b t below formed ready =
     let behind = lay c slots m b t in
-    let h = lay_fits c vars (x ∷ s) in_loop slots m b t (more_below vars x s formed.0 below) formed.2 ready in
-    added_lay_fits vars behind.slots (Set x e behind.node) h.fit (formed.0, set_below (is_in s x) e vars s below formed.1, (omega (arith, h.within), inl h.within))
+    let h = lay_fits c vars (x ∷ s) in_loop slots m b t (set_stays_below vars x s formed.0 below) formed.2 ready in
+    added_lay_fits vars behind.slots (Set x e behind.node) h.fit (formed.0, set_can_evaluate (is_in s x) e vars s below formed.1, (omega (arith, h.within), inl h.within))
 lay_fits (tree.If e x y c) vars s in_loop slots m b t below formed ready =
     let behind = lay c slots m b t in
     let first = lay x behind.slots behind.node b t in
@@ -153,7 +154,7 @@ lay_fits (tree.If e x y c) vars s in_loop slots m b t below formed ready =
     let p = lay_fits x vars s in_loop behind.slots behind.node b t below formed.1 (record { fit = h.fit; next = h.within; out = omega (arith, le, ready.out); again = omega (arith, le, ready.again) }) in
     let q = lay_fits y vars s in_loop first.slots behind.node b t below formed.2 (record { fit = p.fit; next = omega (arith, lex, h.within); out = omega (arith, le, lex, ready.out); again = omega (arith, le, lex, ready.again) }) in
     let down : first.node < length second.slots = omega (arith, ley, p.within) in
-    added_lay_fits vars second.slots (Branch e first.node second.node) q.fit (over_below e vars s below formed.0, (omega (arith, down), inl down), (omega (arith, q.within), inl q.within))
+    added_lay_fits vars second.slots (Branch e first.node second.node) q.fit (over_can_evaluate e vars s below formed.0, (omega (arith, down), inl down), (omega (arith, q.within), inl q.within))
 lay_fits (tree.Loop k e x y f c) vars s in_loop slots m b t below formed ready =
     let behind = lay c slots m b t in
     let head = added behind.slots None in
@@ -176,7 +177,7 @@ lay_fits (tree.Loop k e x y f c) vars s in_loop slots m b t below formed ready =
     let at_head : head.node < length end = omega (arith, leh, ley, lex, size) in
     let at_inner : inner.node < length end = omega (arith, p.within, size) in
     record {
-      fit = test_fits vars behind.slots grown.more inner.slots e inner.node behind.node is p.fit (over_below e vars s below formed.0) p.within h.within k x formed.4 (lay_begins x tail.slots tail.node behind.node tail.node);
+      fit = test_fits vars behind.slots grown.more inner.slots e inner.node behind.node is p.fit (over_can_evaluate e vars s below formed.0) p.within h.within k x formed.4 (lay_begins x tail.slots tail.node behind.node tail.node);
       within = on f (length end) head.node inner.node at_head at_inner;
     }
   where
@@ -191,7 +192,7 @@ lay_fits (tree.Continue c) vars s in_loop slots m b t below formed ready =
     record { fit = h.fit; within = omega (arith, ready.again, grows_length slots (lay c slots m b t).slots (lay_grows c slots m b t)) }
 lay_fits (tree.Return e c) vars s in_loop slots m b t below formed ready =
     let h = lay_fits c vars s in_loop slots m b t below formed.1 ready in
-    added_lay_fits vars (lay c slots m b t).slots (Return e) h.fit (over_below e vars s below formed.0)
+    added_lay_fits vars (lay c slots m b t).slots (Return e) h.fit (over_can_evaluate e vars s below formed.0)
 lay_fits (tree.Mark k c) vars s in_loop slots m b t below formed ready =
     let behind = lay c slots m b t in
     let h = lay_fits c vars s in_loop slots m b t below formed ready in

@@ -7,8 +7,9 @@ use Rattle.c_ast.specs.Tree.{Expression, Num, Statements, Program}
 use Rattle.c_ast.specs.Value.{eval, is_nonzero}
 use Rattle.c_ast.specs.Step.{Scope, LoopParts, Run, Test, Cond, Tail, Work, scope_of, Next, past_tail, to_tail, tested, entered, turned, step, values_in, evaluated, seen_next, seen}
 use Rattle.c_ast.specs.Segment.{Follows}
-use Rattle.c_ast.proofs.MarksAhead.{IsAhead, IsAheadNext, ahead_next}
-use Rattle.c_ast.proofs.Lengths.{HasLength, length-step}
+use Rattle.c_ast.specs.Environments.{HasLength}
+use Rattle.c_ast.specs.Ahead.{IsAhead, IsAheadNext}
+use Rattle.c_ast.proofs.Laws.{step_keeps_length, marks_stay_ahead}
 use Rattle.flow_graph.specs.Operation.{Operation, Set, Branch, Mark, Return}
 use Rattle.flow_graph.specs.FlowGraph.{FlowGraph, operation_at, variables_at}
 use Rattle.flow_graph.specs.Run.{Turn, Goes, Passes, Ends, turn, operand, values_of, seen_turn, seen_at, seen_from}
@@ -245,14 +246,14 @@ module _ {R : Type 0} (holds : Option Expression → List ℤ → Bool) (failed 
 
   forward_does : (i m : ℕ) (r : R) (w : Work) (n : ℕ) (env : List ℤ) → IsAhead f w → length env ≡ f.vars → Does at w (step w env) n env → Forward i → S (suc i) m w env ≡ Some r → OfGraph m n env r
   forward_does i m r w n env p len q go h =
-      let o = both (holds (evaluated w) env) (holds (operand q.op) env) (S-next i m (step w env)) (λ j. G-turn j m (turn q.op env)) failed r (same_test w env q.op q.same) h (forward_step i m r (step w env) (turn q.op env) (ahead_next f w env p) (length-step f.vars w env len) q.beside go) in
+      let o = both (holds (evaluated w) env) (holds (operand q.op) env) (S-next i m (step w env)) (λ j. G-turn j m (turn q.op env)) failed r (same_test w env q.op q.same) h (forward_step i m r (step w env) (turn q.op env) (marks_stay_ahead f w env p) (step_keeps_length f.vars w env len) q.beside go) in
       record { steps = suc o.0; is = at_op o.0 m n env q.op q.is ∙ o.1 }
 
   pub forward : (i : ℕ) → Forward i
   forward zero m w n b t env r p len l h = cc
   forward (suc i) m w n b t env r p len l h =
       elim (step_moves at w n b t env l) [
-        | inl q ↦ forward_wait i m r w n env (step w env) (ahead_next f w env p) len q.0 (forward i) (sym (unrefused i m w env q.1) ∙ h)
+        | inl q ↦ forward_wait i m r w n env (step w env) (marks_stay_ahead f w env p) len q.0 (forward i) (sym (unrefused i m w env q.1) ∙ h)
         | inr q ↦ forward_does i m r w n env p len q (forward i) h
       ]
 
@@ -289,19 +290,19 @@ module _ {R : Type 0} (holds : Option Expression → List ℤ → Bool) (failed 
 
   backward_does : (j m : ℕ) (r : R) (w : Work) (n : ℕ) (env : List ℤ) → IsAhead f w → length env ≡ f.vars → Does at w (step w env) n env → Backward j → G (suc j) m n env ≡ Some r → OfSource m w env r
   backward_does j m r w n env p len q go h =
-      let o = both (holds (operand q.op) env) (holds (evaluated w) env) (G-turn j m (turn q.op env)) (λ i. S-next i m (step w env)) failed r (sym (same_test w env q.op q.same)) (sym (at_op j m n env q.op q.is) ∙ h) (backward_step j m r (step w env) (turn q.op env) (ahead_next f w env p) (length-step f.vars w env len) q.beside go) in
+      let o = both (holds (operand q.op) env) (holds (evaluated w) env) (G-turn j m (turn q.op env)) (λ i. S-next i m (step w env)) failed r (sym (same_test w env q.op q.same)) (sym (at_op j m n env q.op q.is) ∙ h) (backward_step j m r (step w env) (turn q.op env) (marks_stay_ahead f w env p) (step_keeps_length f.vars w env len) q.beside go) in
       record { steps = suc o.0; is = o.1 }
 
   -- the graph's step comes after finitely many steps of the work
   backward_from : (j : ℕ) → Backward j → (fuel m : ℕ) (w : Work) (n b t : ℕ) (env : List ℤ) (r : R) → load w ≤ fuel → IsAhead f w → length env ≡ f.vars → WorkLaid at w n b t → G (suc j) m n env ≡ Some r → OfSource m w env r
   backward_from j go zero m w n b t env r le p len l h =
       elim (step_moves at w n b t env l) [
-        | inl q ↦ (let o = backward_wait m r w n env (step w env) (ahead_next f w env p) q.0 (λ v c u lt pv lv. absurd (omega arith)) in record { steps = suc o.0; is = unrefused o.0 m w env q.1 ∙ o.1 })
+        | inl q ↦ (let o = backward_wait m r w n env (step w env) (marks_stay_ahead f w env p) q.0 (λ v c u lt pv lv. absurd (omega arith)) in record { steps = suc o.0; is = unrefused o.0 m w env q.1 ∙ o.1 })
         | inr q ↦ backward_does j m r w n env p len q go h
       ]
   backward_from j go (suc fuel) m w n b t env r le p len l h =
       elim (step_moves at w n b t env l) [
-        | inl q ↦ (let o = backward_wait m r w n env (step w env) (ahead_next f w env p) q.0 (λ v c u lt pv lv. backward_from j go fuel m v n c u env r (omega arith) pv len lv h) in record { steps = suc o.0; is = unrefused o.0 m w env q.1 ∙ o.1 })
+        | inl q ↦ (let o = backward_wait m r w n env (step w env) (marks_stay_ahead f w env p) q.0 (λ v c u lt pv lv. backward_from j go fuel m v n c u env r (omega arith) pv len lv h) in record { steps = suc o.0; is = unrefused o.0 m w env q.1 ∙ o.1 })
         | inr q ↦ backward_does j m r w n env p len q go h
       ]
 

@@ -20,13 +20,11 @@ use Rattle.c_ast.specs.Trace.{with_event, no_event}
 use Rattle.c_ast.specs.Segment.{StandsIn, Follows, GoesOnFrom, at_mark, at_exit}
 use Rattle.c_ast.specs.Formed.{marks}
 use Rattle.c_ast.specs.Scope.{IsPlace, variables_in}
-use Rattle.c_ast.specs.Shown.{evaluates_fitting}
+use Rattle.c_ast.specs.FitsRun.{evaluates_fitting}
 use Rattle.c_ast.specs.Outcome.{returned}
 use Rattle.c_ast.specs.Judged.{at_most}
-use Rattle.c_ast.proofs.MarksAhead.{IsAhead, ahead_at_start, ahead_after}
-use Rattle.c_ast.proofs.Lengths.{length-spread}
-use Rattle.c_ast.proofs.Scoped.{first_below}
-use Rattle.c_ast.proofs.Environments.{values_in-listed}
+use Rattle.c_ast.specs.Ahead.{IsAhead}
+use Rattle.c_ast.proofs.Laws.{marks_are_ahead, marks_are_ahead_at_start, spread_has_length, parameters_are_below, values_are_listed}
 use Rattle.flow_graph.specs.declared.op.Op.{Op}
 use Rattle.flow_graph.specs.declared.stop.Stop.{Stop}
 use Rattle.flow_graph.specs.Operation.{Operation, Mark, Return, operation_of}
@@ -147,7 +145,7 @@ module _ (f : Function) (is : IsFunction f) (ops : List Op) (entry : ℕ) (out :
   }
 
   fits : LayFits (length f.vars) final.slots final.node
-  fits = lay_fits (statements_of f.body) (length f.vars) (first_variables f.params) false ending 0 0 0 (first_below f.params (length f.vars) is.parameters) is.formed (record {
+  fits = lay_fits (statements_of f.body) (length f.vars) (first_variables f.params) false ending 0 0 0 (parameters_are_below f.params (length f.vars) is.parameters) is.formed (record {
     fit = record { by = ending_fits };
     next = omega arith;
     out = omega arith;
@@ -235,7 +233,7 @@ module _ (f : Function) (is : IsFunction f) (ops : List Op) (entry : ℕ) (out :
     shows = record {
       by = λ mark w follows env len.
           let k = knows mark w follows in
-          ap (λ (z : List ℕ). values_of z env) (k.scope ∙ ap (variables_in (scope_of w)) (sym len)) ∙ values_in-listed (scope_of w) env;
+          ap (λ (z : List ℕ). values_of z env) (k.scope ∙ ap (variables_in (scope_of w)) (sym len)) ∙ values_are_listed (scope_of w) env;
     }
 
     -- the node at which a run goes on from a place
@@ -252,13 +250,13 @@ module _ (f : Function) (is : IsFunction f) (ops : List Op) (entry : ℕ) (out :
       b = 0;
       t = 0;
       laid = subst (λ (z : Work). WorkLaid at z entry 0 0) (sym from) (0, laid, (end, end, end));
-      placed = subst (λ (z : Work). IsAhead program z) (sym from) (ahead_at_start program);
+      placed = subst (λ (z : Work). IsAhead program z) (sym from) (marks_are_ahead_at_start program);
       from = tt;
       scope = ap (λ (z : Work). variables_in (scope_of z) (length f.vars)) (sym from);
     }
     starts (place.Mark mark) w from =
         let k = knows mark w from in
-        record { b = k.b; t = k.t; laid = k.laid; placed = ahead_after program mark w from; from = k.known; scope = k.scope }
+        record { b = k.b; t = k.t; laid = k.laid; placed = marks_are_ahead program (place.Mark mark) w from; from = k.known; scope = k.scope }
     starts place.Exit w from = absurd from
 
     values_same : (l : Place) (w : Work) → Starts l w → (e : List ℤ) → spread (variables_at graph l) (length f.vars) e ≡ spread (scope_of w) (length f.vars) e
@@ -279,34 +277,34 @@ module _ (f : Function) (is : IsFunction f) (ops : List Op) (entry : ℕ) (out :
           → OfGraph holds failed pass done accepts program graph shows 0 (node_after graph l) (spread (variables_at graph l) (length f.vars) e) r
       to_graph l w from e r steps is =
           let s = starts l w from in
-          forward holds failed pass done accepts program graph shows steps 0 w (node_after graph l) s.b s.t (spread (variables_at graph l) (length f.vars) e) r s.placed (length-spread (variables_at graph l) (length f.vars) e) s.laid
+          forward holds failed pass done accepts program graph shows steps 0 w (node_after graph l) s.b s.t (spread (variables_at graph l) (length f.vars) e) r s.placed (spread_has_length (variables_at graph l) (length f.vars) e) s.laid
           (ap (seen holds failed pass done steps 0 w) (values_same l w s e) ∙ is)
 
       to_source : (l : Place) (w : Work) → GoesOnFrom program l w → (e : List ℤ) (r : R) (steps : ℕ) → seen_from holds failed pass done graph steps 0 (node_after graph l) (spread (variables_at graph l) (length f.vars) e) ≡ Some r
           → OfSource holds failed pass done accepts program graph shows 0 w (spread (scope_of w) (length f.vars) e) r
       to_source l w from e r steps is =
           let s = starts l w from in
-          backward holds failed pass done accepts program graph shows steps 0 w (node_after graph l) s.b s.t (spread (scope_of w) (length f.vars) e) r s.placed (length-spread (scope_of w) (length f.vars) e) s.laid
+          backward holds failed pass done accepts program graph shows steps 0 w (node_after graph l) s.b s.t (spread (scope_of w) (length f.vars) e) r s.placed (spread_has_length (scope_of w) (length f.vars) e) s.laid
           (ap (seen_from holds failed pass done graph steps 0 (node_after graph l)) (sym (values_same l w s e)) ∙ is)
 
       -- from the entry, where the parameters have values
       begin_graph : (inputs : List ℤ) (r : R) (steps : ℕ) → seen holds failed pass done steps 0 (start program) (spread (first_variables f.params) (length f.vars) inputs) ≡ Some r
           → OfGraph holds failed pass done accepts program graph shows 0 entry (spread (first_variables f.params) (length f.vars) inputs) r
       begin_graph inputs r steps is =
-          forward holds failed pass done accepts program graph shows steps 0 (start program) entry 0 0 (spread (first_variables f.params) (length f.vars) inputs) r (ahead_at_start program)
-          (length-spread (first_variables f.params) (length f.vars) inputs) (0, laid, (end, end, end)) is
+          forward holds failed pass done accepts program graph shows steps 0 (start program) entry 0 0 (spread (first_variables f.params) (length f.vars) inputs) r (marks_are_ahead_at_start program)
+          (spread_has_length (first_variables f.params) (length f.vars) inputs) (0, laid, (end, end, end)) is
 
       begin_source : (inputs : List ℤ) (r : R) (steps : ℕ) → seen_from holds failed pass done graph steps 0 entry (spread (first_variables f.params) (length f.vars) inputs) ≡ Some r
           → OfSource holds failed pass done accepts program graph shows 0 (start program) (spread (first_variables f.params) (length f.vars) inputs) r
       begin_source inputs r steps is =
-          backward holds failed pass done accepts program graph shows steps 0 (start program) entry 0 0 (spread (first_variables f.params) (length f.vars) inputs) r (ahead_at_start program)
-          (length-spread (first_variables f.params) (length f.vars) inputs) (0, laid, (end, end, end)) is
+          backward holds failed pass done accepts program graph shows steps 0 (start program) entry 0 0 (spread (first_variables f.params) (length f.vars) inputs) r (marks_are_ahead_at_start program)
+          (spread_has_length (first_variables f.params) (length f.vars) inputs) (0, laid, (end, end, end)) is
 
     always_accepts : AcceptsNone always
     always_accepts = record { by = λ env. refl }
 
-    narrow_accepts : AcceptsNone evaluates_fitting
-    narrow_accepts = record { by = λ env. refl }
+    fitting_accepts : AcceptsNone evaluates_fitting
+    fitting_accepts = record { by = λ env. refl }
 
     pub is_graph : IsGraphOf (program_of f) (record { params = f.params; vars = length f.vars; ops = ops; entry = entry; stops = stops })
     is_graph = record {
@@ -323,8 +321,8 @@ module _ (f : Function) (is : IsFunction f) (ops : List Op) (entry : ℕ) (out :
         λ h. (let p = a_place l h.from in let o = to_source always None at_mark at_exit always_accepts l p.work p.from e (l', e') h.steps h.met in record { work = p.work; from = p.from; steps = o.steps; met = o.is }),
       );
       judged = λ inputs limit result. (
-        λ h. (let o = begin_graph evaluates_fitting (Some outcome.Wide) (at_most limit) returned narrow_accepts inputs result h.steps h.is in record { steps = o.steps; is = o.is }),
-        λ h. (let o = begin_source evaluates_fitting (Some outcome.Wide) (at_most limit) returned narrow_accepts inputs result h.steps h.is in record { steps = o.steps; is = o.is }),
+        λ h. (let o = begin_graph evaluates_fitting (Some outcome.Wide) (at_most limit) returned fitting_accepts inputs result h.steps h.is in record { steps = o.steps; is = o.is }),
+        λ h. (let o = begin_source evaluates_fitting (Some outcome.Wide) (at_most limit) returned fitting_accepts inputs result h.steps h.is in record { steps = o.steps; is = o.is }),
       );
     }
 

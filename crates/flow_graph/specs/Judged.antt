@@ -3,7 +3,7 @@ use Rattle.std.specs.Prelude.{◌≡◌, ℕ, List, Some, ℤ}
 use Rattle.c_ast.specs.declared.trace.Outcome.{Outcome}
 use Rattle.c_ast.specs.declared.trace.Outcome.TheVariants as outcome
 use Rattle.c_ast.specs.Step.{first_variables, spread}
-use Rattle.c_ast.specs.Shown.{evaluates_fitting}
+use Rattle.c_ast.specs.FitsRun.{evaluates_fitting}
 use Rattle.c_ast.specs.Outcome.{returned}
 use Rattle.c_ast.specs.Judged.{at_most}
 use Rattle.flow_graph.specs.FlowGraph.{FlowGraph}
