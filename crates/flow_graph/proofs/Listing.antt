@@ -1,7 +1,7 @@
 -- The variables in scope at a place, listed by rising number.
 use Rattle.std.proofs.lemmas.Bool.{eqb-true, eq-eqb}
 use Rattle.std.proofs.lemmas.Bool.Decides.{nat_tests}
-use Rattle.std.proofs.Common.{◌≡◌, ℕ, zero, suc, ◌+◌, ◌-◌, ◌<◌, ◌≤◌, Bool, true, false, eqb, ◌||◌, List, [], ◌∷◌, ◌++◌, All, ℤ, pos, refl, sym, ap, ◌∙◌, subst, arith, append_assoc, append-nil}
+use Rattle.std.proofs.Common.{◌≡◌, ℕ, zero, suc, ◌+◌, ◌-◌, ◌<◌, ◌≤◌, Bool, true, false, eqb, ◌||◌, List, [], ◌∷◌, ◌++◌, length, nat_lt, All, ℤ, pos, refl, sym, ap, ◌∙◌, subst, arith, append_assoc, append-nil}
 use Rattle.c_ast.specs.Step.{Scope, is_in, first_variables, spread_one, spread_from, spread}
 use Rattle.c_ast.specs.Scope.{with_variable, variables_from, variables_in}
 use Rattle.c_ast.proofs.Laws.{first_variables_are_below, listed_are_below}
@@ -75,6 +75,24 @@ parameter_listed p n x next old new next_is below le lists new_is =
 
 pub parameters_listed : (p n x : ℕ) (variables : List ℕ) → p ≤ x → ListsVariables (first_variables p) n x variables → variables ≡ variables_in (first_variables p) n
 parameters_listed p n x variables past lists = sym (append-nil variables) ∙ ap (λ (z : List ℕ). variables ++ z) (sym (none_past p x (n - x) past)) ∙ lists.is
+
+-- the parameters are as many as they are
+count_from : (p x n : ℕ) → x ≤ p → p ≤ x + n → x + length (variables_from (first_variables p) x n) ≡ p
+count_from p x zero from upto = omega arith
+count_from p x (suc n) from upto = on (nat_lt x p) refl (λ more. count_from p (suc x) n more (omega arith))
+  where
+    on : (t : Bool) → nat_lt x p ≡ t → (suc x ≤ p → suc x + length (variables_from (first_variables p) (suc x) n) ≡ p)
+        → x + length (with_variable (is_in (first_variables p) x) x (variables_from (first_variables p) (suc x) n)) ≡ p
+    on true is more =
+        let here = ap (λ (t : Bool). x + length (with_variable t x (variables_from (first_variables p) (suc x) n))) (first_variables_are_below p x ∙ is) in
+        here ∙ (let later = more (grind (arith, nat_tests)) in omega (arith, later))
+    on false is more =
+        let here = ap (λ (t : Bool). x + length (with_variable t x (variables_from (first_variables p) (suc x) n))) (first_variables_are_below p x ∙ is) in
+        let past : p ≤ x = grind (arith, nat_tests) in
+        here ∙ (let none = ap length (none_past p (suc x) n (omega (arith, past))) in omega (arith, none, past))
+
+pub parameters_counted : (p n : ℕ) → p ≤ n → length (variables_in (first_variables p) n) ≡ p
+parameters_counted p n within = let all = count_from p 0 n (omega arith) (omega arith) in omega (arith, all)
 
 -- those in scope are among the variables
 pub variables_in-All : (s : Scope) (n : ℕ) → All (λ x. x < n) (variables_in s n)

@@ -17,6 +17,7 @@ use Rattle.flow_graph.specs.Operation.{Mark, operation_of}
 use Rattle.flow_graph.specs.FlowGraph.{stop_of}
 use Rattle.flow_graph.specs.WellFormed.{IsStop}
 use Rattle.flow_graph.specs.Stops.{with_stop, Marks, MarksOf, AreStops}
+use Rattle.flow_graph.proofs.Rising.{one_increases, front_increases, first_below, others_increase}
 
 insert_prefix : (stop : Stop) (stops : List Stop) → insert stops (prefix_len (λ other. nat_lt other.mark stop.mark) stops) stop ≡ with_stop stop stops
 insert_prefix stop [] = refl
@@ -62,22 +63,6 @@ apart stop first others none over =
 
 abbrev marks : List Stop → List ℕ
 marks stops = map (λ (stop : Stop). stop.mark) stops
-
-one_increases : (x : ℕ) → IsStrictlyIncreasing (x ∷ [])
-one_increases x = λ k below. absurd (omega arith)
-
-after_next : (k : ℕ) → suc (k + 1) ≡ suc k + 1
-after_next k = omega arith
-
-front_increases : (x y : ℕ) (ys : List ℕ) → x < y → IsStrictlyIncreasing (y ∷ ys) → IsStrictlyIncreasing (x ∷ y ∷ ys)
-front_increases x y ys below rising zero within = below
-front_increases x y ys below rising (suc k) within = subst (λ (i : ℕ). slice_index (y ∷ ys) k < slice_index (x ∷ y ∷ ys) i) (after_next k) (rising k (omega arith))
-
-first_below : (x y : ℕ) (ys : List ℕ) → IsStrictlyIncreasing (x ∷ y ∷ ys) → x < y
-first_below x y ys rising = rising 0 (omega arith)
-
-others_increase : (x : ℕ) (xs : List ℕ) → IsStrictlyIncreasing (x ∷ xs) → IsStrictlyIncreasing xs
-others_increase x xs rising = λ k within. subst (λ (i : ℕ). slice_index xs k < slice_index (x ∷ xs) i) (sym (after_next k)) (rising (suc k) (omega arith))
 
 -- a stop greater than a number, among those that rise from it
 rising_from : (low : ℕ) (stop : Stop) (stops : List Stop) → low < stop.mark → stop_of stops stop.mark ≡ None → IsStrictlyIncreasing (low ∷ marks stops)

@@ -1,6 +1,8 @@
 -- The graph of a function: what is built does what the function does, and is well formed.
 use Rattle.std.proofs.lemmas.Option.{slice_get_within}
-use Rattle.std.proofs.Common.{◌≡◌, ℕ, zero, suc, ◌<◌, ◌^◌, Bool, false, inl, inr, List, [], ◌∷◌, length, All, Option, Some, None, IsSome, ℤ, pos, refl, sym, ap, ◌∙◌, subst, arith}
+use Rattle.std.proofs.lemmas.List.{length-map}
+use Rattle.std.specs.List.Sorted.{IsStrictlyIncreasing}
+use Rattle.std.proofs.Common.{◌≡◌, ◌↔◌, ℕ, zero, suc, ◌<◌, ◌^◌, Bool, false, inl, inr, List, [], ◌∷◌, length, All, Option, Some, None, IsSome, ℤ, pos, refl, sym, ap, ◌∙◌, subst, arith}
 use Rattle.std.specs.Prelude.{filter_map, slice_get}
 use Rattle.std.specs.Option.{option_map}
 use Rattle.c_ast.specs.declared.expr.Expr.{Expr, Num, fold_out-Expr, map-Expr}
@@ -14,10 +16,10 @@ use Rattle.c_ast.specs.Tree as tree
 use Rattle.c_ast.specs.Tree.{Expression, Statements, Program}
 use Rattle.c_ast.specs.View.{expression_level, expression_of, statements_of}
 use Rattle.c_ast.specs.Function.{Function, IsFunction, program_of}
-use Rattle.c_ast.specs.Step.{Scope, LoopParts, Run, Test, Cond, Tail, Work, scope_of, first_variables, start, spread, seen}
+use Rattle.c_ast.specs.Step.{Scope, LoopParts, Run, Test, Cond, Tail, Work, scope_of, first_variables, start, values_in, spread, seen}
 use Rattle.c_ast.specs.Returns.{always}
 use Rattle.c_ast.specs.Trace.{with_event, no_event}
-use Rattle.c_ast.specs.Segment.{StandsIn, Follows, GoesOnFrom, at_mark, at_exit}
+use Rattle.c_ast.specs.Segment.{StandsIn, Follows, GoesOnFrom, FitsPlace, at_mark, at_exit}
 use Rattle.c_ast.specs.Formed.{marks}
 use Rattle.c_ast.specs.Scope.{IsPlace, variables_in}
 use Rattle.c_ast.specs.FitsRun.{evaluates_fitting}
@@ -28,7 +30,7 @@ use Rattle.c_ast.proofs.Laws.{marks_are_ahead, marks_are_ahead_at_start, spread_
 use Rattle.flow_graph.specs.declared.op.Op.{Op}
 use Rattle.flow_graph.specs.declared.stop.Stop.{Stop}
 use Rattle.flow_graph.specs.Operation.{Operation, Mark, Return, operation_of}
-use Rattle.flow_graph.specs.FlowGraph.{FlowGraph, operation_at, stop_of, next_of, scope_of_stop, node_after, variables_at, GoesOnAt}
+use Rattle.flow_graph.specs.FlowGraph.{FlowGraph, operation_at, stop_of, next_of, scope_of_stop, node_after, variables_at, width_at, GoesOnAt, HasPlace}
 use Rattle.flow_graph.specs.Run.{values_of, seen_from}
 use Rattle.flow_graph.specs.WellFormed.{Fits, IsFlowGraph}
 use Rattle.flow_graph.specs.Built.{IsGraphOf}
@@ -39,7 +41,8 @@ use Rattle.flow_graph.proofs.Laid.{Table, TestLaid, Laid, LoopLaid, IsEnd, WorkL
 use Rattle.flow_graph.proofs.Closing.{opens, closed_table, closed_length}
 use Rattle.flow_graph.proofs.Counting.{slot_marks, some_marks, one_node, lay_counts, stands_somewhere}
 use Rattle.flow_graph.proofs.Fitting.{LayFits, lay_fits, fits_more}
-use Rattle.flow_graph.proofs.Listing.{spread-variables_in, variables_in-All}
+use Rattle.flow_graph.proofs.Listing.{spread-variables_in, parameters_counted, variables_in-All}
+use Rattle.flow_graph.proofs.Rising.{listed_rise}
 use Rattle.flow_graph.proofs.Simulates.{Shows, AcceptsNone, OfGraph, OfSource, forward, backward}
 
 -- ---- each mark of the function has its node
@@ -175,11 +178,15 @@ module _ (f : Function) (is : IsFunction f) (ops : List Op) (entry : ℕ) (out :
   fit node o here = fits_more (table_of final.slots) _ extends (length final.slots) (length ops) (length f.vars) node o (omega (arith, count)) (fits.fit.by node o (table node ∙ here))
 
   module _ (stops : List Stop) (are : AreStops (program_of f) ops (length ops) stops) where
-    afters : (mark : ℕ) (stop : Stop) → stop_of stops mark ≡ Some stop → (stop.next < length ops) × All (λ x. x < length f.vars) stop.scope
+    afters : (mark : ℕ) (stop : Stop) → stop_of stops mark ≡ Some stop → (stop.next < length ops) × All (λ x. x < length f.vars) stop.scope × IsStrictlyIncreasing stop.scope
     afters mark stop found =
         let o = are.only mark stop found in
         let p = marks_of.places o.0 mark stop.next o.2 in
-        (fit o.0 (Mark mark stop.next) o.2, subst (All (λ (x : ℕ). x < length f.vars)) (sym (o.3 p.work p.from)) (variables_in-All (scope_of p.work) (length f.vars)))
+        let scope_is = sym (o.3 p.work p.from) in (
+          fit o.0 (Mark mark stop.next) o.2,
+          subst (All (λ (x : ℕ). x < length f.vars)) scope_is (variables_in-All (scope_of p.work) (length f.vars)),
+          subst IsStrictlyIncreasing scope_is (listed_rise (scope_of p.work) (length f.vars)),
+        )
 
     pub well_formed : IsFlowGraph (record { params = f.params; vars = length f.vars; ops = ops; entry = entry; stops = stops })
     well_formed = record {
@@ -271,6 +278,22 @@ module _ (f : Function) (is : IsFunction f) (ops : List Op) (entry : ℕ) (out :
         on (Some stop) found some = let o = are.only mark stop found in marks_of.places o.0 mark stop.next o.2
     a_place place.Exit goes = absurd goes
 
+    -- the values that fit the function's place fit the graph's
+    mark_width : (mark : ℕ) (w : Work) → Follows program mark w → length (values_in (scope_of w) (spread [] (length f.vars) [])) ≡ width_at graph (place.Mark mark)
+    mark_width mark w follows =
+        let env = spread [] (length f.vars) [] in
+        ap length (sym (values_are_listed (scope_of w) env)) ∙ length-map (variables_in (scope_of w) (length env)) _
+        ∙ ap (λ (n : ℕ). length (variables_in (scope_of w) n)) (spread_has_length [] (length f.vars) []) ∙ ap length (sym (knows mark w follows).scope)
+
+    place_fits : (l : Place) (e : List ℤ) → HasPlace graph l → FitsPlace program l e ↔ (length e ≡ width_at graph l)
+    place_fits place.Entry e has =
+        let width = parameters_counted f.params (length f.vars) is.parameters in
+        (λ fits. fits ∙ sym width, λ fits. fits ∙ width)
+    place_fits (place.Mark mark) e has =
+        let p = a_place (place.Mark mark) has in
+        (λ fits. fits.2 ∙ mark_width mark fits.0 fits.1, λ fits. (p.work, p.from, fits ∙ sym (mark_width mark p.work p.from)))
+    place_fits place.Exit e has = (λ fits. fits, λ fits. fits)
+
     -- whatever is observed from a place on
     module _ {R : Type 0} (holds : Option Expression → List ℤ → Bool) (failed : Option R) (pass : ℕ → ℕ → List ℤ → Option R → Option R) (done : ℤ → R) (accepts : AcceptsNone holds) where
       to_graph : (l : Place) (w : Work) → GoesOnFrom program l w → (e : List ℤ) (r : R) (steps : ℕ) → seen holds failed pass done steps 0 w (spread (scope_of w) (length f.vars) e) ≡ Some r
@@ -312,6 +335,7 @@ module _ (f : Function) (is : IsFunction f) (ops : List Op) (entry : ℕ) (out :
       vars = refl;
       places = λ l. (a_place l, λ p. (starts l p.work p.from).from);
       scopes = λ l p work from. (starts l work from).scope;
+      fits = place_fits;
       traces = λ inputs trace. (
         λ h. (let o = begin_graph always None with_event no_event always_accepts inputs trace h.steps h.ran in record { steps = o.steps; ran = o.is }),
         λ h. (let o = begin_source always None with_event no_event always_accepts inputs trace h.steps h.ran in record { steps = o.steps; ran = o.is }),

@@ -6,26 +6,28 @@ use Rattle.c_ast.specs.Tree.{Statements}
 use Rattle.flow_graph.specs.declared.op.Op.{Op}
 use Rattle.flow_graph.specs.Operation.{Operation, Set, Branch, Mark, Return, operation_of}
 
--- the slots of the nodes so far, of which some may be open
+-- The slots of the nodes so far, of which some may be open.
 abbrev pub Slots : Type 0
 Slots = List (Option Operation)
 
+-- The slots of the code.
 abbrev pub slots_of : List (Option Op) → Slots
 slots_of = map (option_map operation_of)
 
--- the slots, and the node at which the statements begin
+-- The slots, and the node at which the statements begin.
 pub record Layout : Type 0 where
   pub slots : Slots
   pub node : ℕ
 
+-- The layout of these parts.
 abbrev pub layout : Slots → ℕ → Layout
 layout slots node = record { slots = slots; node = node }
 
--- with one more slot, which is the node
+-- With one more slot, which is the node.
 abbrev pub added : Slots → Option Operation → Layout
 added slots op = layout (slots ++ op ∷ []) (length slots)
 
--- the loop's test fills its open slot; where the loop has a mark, that fills it, and the test comes next
+-- The loop's test fills its open slot; where the loop has a mark, that fills it, and the test comes next.
 abbrev pub filled : Option ℕ → Slots → ℕ → Operation → Slots
 filled None slots head test = slice_set slots head (Some test)
 filled (Some mark) slots head test = slice_set (slots ++ Some test ∷ []) head (Some (Mark mark (length slots)))

@@ -11,7 +11,7 @@ use Rattle.flow_graph.specs.Operation.{Mark, operation_of}
 use Rattle.flow_graph.specs.FlowGraph.{stop_of}
 use Rattle.flow_graph.specs.WellFormed.{IsStop}
 
--- with one more, in front of the first whose mark is not less
+-- With one more, in front of the first whose mark is not less.
 abbrev pub with_stop : Stop → List Stop → List Stop
 with_stop stop [] = stop ∷ []
 with_stop stop (first ∷ others) = if nat_lt first.mark stop.mark then first ∷ with_stop stop others else stop ∷ first ∷ others

@@ -38,7 +38,7 @@ impl Model for Graph {
 }
 
 impl Graph {
-    ghost use Rattle.flow_graph.specs.FlowGraph.{FlowGraph, stop_of, node_after, variables_at, places_of, marks_among, GoesOnAt, HasPlace};
+    ghost use Rattle.flow_graph.specs.FlowGraph.{FlowGraph, stop_of, node_after, variables_at, width_at, places_of, marks_among, GoesOnAt, HasPlace};
     ghost use Rattle.flow_graph.specs.WellFormed.{IsFlowGraph};
 
     /// The number of the function's parameters.
@@ -62,7 +62,8 @@ impl Graph {
         self.ops.len() as u32
     }
 
-    /// The node with this number, which is below `len`. What holds of every graph is handed on here.
+    /// The node with this number, which is below `len`. What holds of every graph is handed on here: each node's edges lead
+    /// down or to marks, and its expression can be evaluated over the graph's variables.
     pub fn op(&self, n: u32) -> &Op
         requires { n < length self.now.ops }
         ensures op { slice_get self.now.ops n ≡ Some result.now }
@@ -109,7 +110,8 @@ impl Graph {
     /// has a value.
     pub fn vars_at(&self, alloc: Global, place: Place) -> Result<Vec<u32>, AllocError>
         requires { HasPlace self.now place }
-        ensures { IfOk result (λ variables. variables.items ≡ variables_at self.now place) }
+        ensures listed { IfOk result (λ variables. variables.items ≡ variables_at self.now place) }
+        ensures rising { IfOk result (λ variables. IsStrictlyIncreasing variables.items) }
     {
         match place {
             Place::Entry => {
@@ -124,6 +126,18 @@ impl Graph {
                 Ok(Vec::from_slice(alloc, stop.scope.as_slice())?)
             }
             Place::Exit => Ok(Vec::new(alloc)),
+        }
+    }
+
+    /// How many values a run has at a place of the graph: one for each variable in scope, and at the exit the result alone.
+    pub fn width_at(&self, place: Place) -> u32
+        requires { HasPlace self.now place }
+        ensures { result ≡ width_at self.now place }
+    {
+        match place {
+            Place::Entry => self.params,
+            Place::Mark(mark) => self.stop(mark).unwrap().scope.len() as u32,
+            Place::Exit => 1,
         }
     }
 }

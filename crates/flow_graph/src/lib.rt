@@ -6,12 +6,14 @@
 //! too many, or meets a wide value.
 #![tactic(auto)]
 
-mod builder;
-mod graph;
-mod layout;
 mod op;
+mod layout;
 mod stop;
+mod graph;
+mod builder;
+mod law;
 
-pub use builder::build;
-pub use graph::Graph;
 pub use op::Op;
+pub use graph::Graph;
+pub use builder::build;
+pub use law::{law_of_graph_segments, law_of_graph_values};
