@@ -28,7 +28,8 @@ mark_more at more x i h = on (at i) refl h
 leads_more : (at more : Table) → Extends at more → (count count' node next : ℕ) → count ≤ count' → Leads at count node next → Leads more count' node next
 leads_more at more x count count' node next le h = (omega (arith, h.0), elim h.1 [ inl p ↦ inl p | inr p ↦ inr (mark_more at more x next p) ])
 
-pub fits_more : (at more : Table) → Extends at more → (count count' vars node : ℕ) (op : Operation) → count ≤ count' → Fits at count vars node op → Fits more count' vars node op
+pub fits_more : (at more : Table) → Extends at more → (count count' vars node : ℕ) (op : Operation) → count ≤ count' → Fits at count vars node op
+    → Fits more count' vars node op
 fits_more at more x count count' vars node (Set y e next) le h = (h.0, h.1, leads_more at more x count count' node next le h.2)
 fits_more at more x count count' vars node (Branch e first second) le h = (h.0, leads_more at more x count count' node first le h.1, leads_more at more x count count' node second le h.2)
 fits_more at more x count count' vars node (Mark k next) le h = omega (arith, h)
@@ -39,19 +40,23 @@ fits_more at more x count count' vars node (Return e) le h = h
 pub record SlotsFit (vars : ℕ) (slots : Slots) : Type 0 where
   pub by : (i : ℕ) (op : Operation) → table_of slots i ≡ Some op → Fits (table_of slots) (length slots) vars i op
 
-at_last : (xs : Slots) (last : Option Operation) (i : ℕ) (op : Operation) → table_of (xs ++ last ∷ []) i ≡ Some op → (table_of xs i ≡ Some op) ⊎ (i ≡ length xs) × (last ≡ Some op)
+at_last : (xs : Slots) (last : Option Operation) (i : ℕ) (op : Operation) → table_of (xs ++ last ∷ []) i ≡ Some op → (table_of xs i ≡ Some op)
+    ⊎ (i ≡ length xs) × (last ≡ Some op)
 at_last [] last zero op h = inr (refl, h)
 at_last [] last (suc i) op h = cc
 at_last (x ∷ xs) last zero op h = inl h
 at_last (x ∷ xs) last (suc i) op h = elim (at_last xs last i op h) [ inl p ↦ inl p | inr p ↦ inr (ap suc p.0, p.1) ]
 
 -- one more slot, which is open or fits
-pub add_fits : (vars : ℕ) (slots : Slots) (last : Option Operation) → SlotsFit vars slots → ((op : Operation) → last ≡ Some op → Fits (table_of (slots ++ last ∷ [])) (suc (length slots)) vars (length slots) op) → SlotsFit vars (slots ++ last ∷ [])
+pub add_fits : (vars : ℕ) (slots : Slots) (last : Option Operation) → SlotsFit vars slots
+    → ((op : Operation) → last ≡ Some op → Fits (table_of (slots ++ last ∷ [])) (suc (length slots)) vars (length slots) op)
+    → SlotsFit vars (slots ++ last ∷ [])
 add_fits vars slots last fit last_fits = record {
   by = λ i op h.
       let size : length (slots ++ last ∷ []) ≡ suc (length slots) = omega (arith, length-append slots (last ∷ [])) in
       subst (λ (n : ℕ). Fits (table_of (slots ++ last ∷ [])) n vars i op) (sym size) (elim (at_last slots last i op h) [
-        | inl p ↦ fits_more (table_of slots) _ (grows_extends slots (slots ++ last ∷ []) (grows_one slots last)) (length slots) (suc (length slots)) vars i op (omega arith) (fit.by i op p)
+        | inl p ↦ fits_more (table_of slots) _ (grows_extends slots (slots ++ last ∷ []) (grows_one slots last)) (length slots)
+            (suc (length slots)) vars i op (omega arith) (fit.by i op p)
         | inr p ↦ subst (λ (n : ℕ). Fits (table_of (slots ++ last ∷ [])) (suc (length slots)) vars n op) (sym p.0) (last_fits op p.1)
       ]);
 }
@@ -59,24 +64,30 @@ add_fits vars slots last fit last_fits = record {
 open_fits : (vars : ℕ) (slots : Slots) → SlotsFit vars slots → SlotsFit vars (slots ++ None ∷ [])
 open_fits vars slots fit = add_fits vars slots None fit (λ op h. cc)
 
-op_fits : (vars : ℕ) (slots : Slots) (op : Operation) → SlotsFit vars slots → Fits (table_of (slots ++ Some op ∷ [])) (suc (length slots)) vars (length slots) op → SlotsFit vars (slots ++ Some op ∷ [])
-op_fits vars slots op fit h = add_fits vars slots (Some op) fit (λ other is. let same : op ≡ other = cc in subst (λ (o : Operation). Fits (table_of (slots ++ Some op ∷ [])) (suc (length slots)) vars (length slots) o) same h)
+op_fits : (vars : ℕ) (slots : Slots) (op : Operation) → SlotsFit vars slots
+    → Fits (table_of (slots ++ Some op ∷ [])) (suc (length slots)) vars (length slots) op → SlotsFit vars (slots ++ Some op ∷ [])
+op_fits vars slots op fit h = add_fits vars slots (Some op) fit (λ other is. let same : op
+    ≡ other = cc in subst (λ (o : Operation). Fits (table_of (slots ++ Some op ∷ [])) (suc (length slots)) vars (length slots) o) same h)
 
-at_filled : (xs ys : Slots) (first : Operation) (i : ℕ) (op : Operation) → table_of (xs ++ Some first ∷ ys) i ≡ Some op → (table_of (xs ++ None ∷ ys) i ≡ Some op) ⊎ (i ≡ length xs) × (first ≡ op)
+at_filled : (xs ys : Slots) (first : Operation) (i : ℕ) (op : Operation) → table_of (xs ++ Some first ∷ ys) i ≡ Some op
+    → (table_of (xs ++ None ∷ ys) i ≡ Some op) ⊎ (i ≡ length xs) × (first ≡ op)
 at_filled [] ys first zero op h = inr (refl, (cc))
 at_filled [] ys first (suc i) op h = inl h
 at_filled (x ∷ xs) ys first zero op h = inl h
 at_filled (x ∷ xs) ys first (suc i) op h = elim (at_filled xs ys first i op h) [ inl p ↦ inl p | inr p ↦ inr (ap suc p.0, p.1) ]
 
 -- the open slot behind the old ones is filled with an operation that fits
-fill_fits : (vars : ℕ) (old more slots new : Slots) (first : Operation) → slots ≡ old ++ None ∷ more → new ≡ old ++ Some first ∷ more → Extends (table_of slots) (table_of new)
+fill_fits : (vars : ℕ) (old more slots new : Slots) (first : Operation) → slots ≡ old ++ None ∷ more → new ≡ old ++ Some first ∷ more
+    → Extends (table_of slots) (table_of new)
     → SlotsFit vars slots → Fits (table_of new) (length new) vars (length old) first → SlotsFit vars new
 fill_fits vars old more slots new first is new_is extends fit first_fits = record {
   by = λ i op h.
       let size : length slots ≤ length new = omega (arith, ap length is, ap length new_is, length-append old (None ∷ more), length-append old (Some first ∷ more)) in
       elim (at_filled old more first i op (subst (λ (z : Slots). table_of z i ≡ Some op) new_is h)) [
-        | inl p ↦ fits_more (table_of slots) (table_of new) extends (length slots) (length new) vars i op size (fit.by i op (subst (λ (z : Slots). table_of z i ≡ Some op) (sym is) p))
-        | inr p ↦ subst (λ (n : ℕ). Fits (table_of new) (length new) vars n op) (sym p.0) (subst (λ (o : Operation). Fits (table_of new) (length new) vars (length old) o) p.1 first_fits)
+        | inl p ↦ fits_more (table_of slots) (table_of new) extends (length slots)
+            (length new) vars i op size (fit.by i op (subst (λ (z : Slots). table_of z i ≡ Some op) (sym is) p))
+        | inr p ↦ subst (λ (n : ℕ). Fits (table_of new) (length new) vars n op) (sym p.0)
+            (subst (λ (o : Operation). Fits (table_of new) (length new) vars (length old) o) p.1 first_fits)
       ];
 }
 
@@ -95,13 +106,16 @@ lay_begins (tree.Block x c) slots m b t h = let behind = lay c slots m b t in la
 
 -- ---- a loop's test
 
-module _ (vars : ℕ) (old more slots : Slots) (e : Expression) (body out : ℕ) (is : slots ≡ old ++ None ∷ more) (fit : SlotsFit vars slots) (below : CanEvaluate vars e) (inside : body < length slots) (outside : out < length old) where
-  pub test_fits : (mark : Option ℕ) (stmts : Statements) → PassesMark mark stmts → (BeginsWithMark stmts → IsMark (table_of slots body)) → SlotsFit vars (filled mark slots (length old) (Branch e body out))
+module _ (vars : ℕ) (old more slots : Slots) (e : Expression) (body out : ℕ) (is : slots ≡ old ++ None ∷ more) (fit : SlotsFit vars slots)
+    (below : CanEvaluate vars e) (inside : body < length slots) (outside : out < length old) where
+  pub test_fits : (mark : Option ℕ) (stmts : Statements) → PassesMark mark stmts → (BeginsWithMark stmts → IsMark (table_of slots body))
+      → SlotsFit vars (filled mark slots (length old) (Branch e body out))
   test_fits None stmts passes begins =
       let first = Branch e body out in
       let new_is = set_open old more slots (Some first) is in
       let extends = filled_extends None old more slots first is in
-      let new_size : length (filled None slots (length old) first) ≡ length slots = omega (arith, ap length new_is, length-append old (Some first ∷ more), ap length is, length-append old (None ∷ more)) in
+      let new_size : length (filled None slots (length old) first)
+      ≡ length slots = omega (arith, ap length new_is, length-append old (Some first ∷ more), ap length is, length-append old (None ∷ more)) in
       fill_fits vars old more slots (filled None slots (length old) first) first is new_is extends fit
       (below, (omega (arith, new_size), inr (mark_more (table_of slots) _ extends body (begins passes))), (omega (arith, new_size, ap length is, length-append old (None ∷ more)), inl outside))
   test_fits (Some k) stmts passes begins =
@@ -111,7 +125,8 @@ module _ (vars : ℕ) (old more slots : Slots) (e : Expression) (body out : ℕ)
       let longer_is = open_more old more slots (Some last) is in
       let new_is = set_open old (more ++ Some last ∷ []) longer (Some first) longer_is in
       let old_size : length slots ≡ length old + suc (length more) = ap length is ∙ length-append old (None ∷ more) in
-      let new_size : length (filled (Some k) slots (length old) last) ≡ suc (length slots) = omega (arith, ap length new_is, length-append old (Some first ∷ (more ++ Some last ∷ [])), length-append more (Some last ∷ []), old_size) in
+      let new_size : length (filled (Some k) slots (length old) last)
+      ≡ suc (length slots) = omega (arith, ap length new_is, length-append old (Some first ∷ (more ++ Some last ∷ [])), length-append more (Some last ∷ []), old_size) in
       let longer_fits = op_fits vars slots last fit (below, (omega arith, inl inside), (omega (arith, old_size), inl (omega (arith, old_size)))) in
       fill_fits vars old (more ++ Some last ∷ []) longer (filled (Some k) slots (length old) last) first longer_is new_is (filled_extends None old (more ++ Some last ∷ []) longer first longer_is) longer_fits (omega (arith, new_size))
 
@@ -131,10 +146,12 @@ pub record Ready (vars : ℕ) (slots : Slots) (m b t : ℕ) : Type 0 where
   pub out : b < length slots
   pub again : t < length slots
 
-added_lay_fits : (vars : ℕ) (slots : Slots) (op : Operation) → SlotsFit vars slots → Fits (table_of (slots ++ Some op ∷ [])) (suc (length slots)) vars (length slots) op → LayFits vars (slots ++ Some op ∷ []) (length slots)
+added_lay_fits : (vars : ℕ) (slots : Slots) (op : Operation) → SlotsFit vars slots
+    → Fits (table_of (slots ++ Some op ∷ [])) (suc (length slots)) vars (length slots) op → LayFits vars (slots ++ Some op ∷ []) (length slots)
 added_lay_fits vars slots op fit h = record { fit = op_fits vars slots op fit h; within = omega (arith, length-append slots (Some op ∷ [])) }
 
-pub lay_fits : (c : Statements) (vars : ℕ) (s : Scope) (in_loop : Bool) (slots : Slots) (m b t : ℕ) → IsBelow vars s → AreFormed vars s in_loop c → Ready vars slots m b t → LayFits vars (lay c slots m b t).slots (lay c slots m b t).node
+pub lay_fits : (c : Statements) (vars : ℕ) (s : Scope) (in_loop : Bool) (slots : Slots) (m b t : ℕ) → IsBelow vars s → AreFormed vars s in_loop c
+    → Ready vars slots m b t → LayFits vars (lay c slots m b t).slots (lay c slots m b t).node
 lay_fits tree.Nil vars s in_loop slots m b t below formed ready = record { fit = ready.fit; within = ready.next }
 lay_fits (tree.Set x e c) vars s in_loop slots m b t below formed ready =
     let behind = lay c slots m b t in

@@ -59,7 +59,8 @@ record Meets (graph : FlowGraph) (node : ℕ) (env : List ℤ) : Type 0 where
   is : met graph steps 0 node env ≡ Some at
 
 module _ (graph : FlowGraph) (is : IsFlowGraph graph) where
-  one_step : (node : ℕ) (env : List ℤ) (o : Option Operation) → operation_at graph node ≡ o → (n : ℕ) (r : Met) → met_at graph n 0 o env ≡ Some r → Meets graph node env
+  one_step : (node : ℕ) (env : List ℤ) (o : Option Operation) → operation_at graph node ≡ o → (n : ℕ) (r : Met) → met_at graph n 0 o env ≡ Some r
+      → Meets graph node env
   one_step node env o o_is n r met_is = record { steps = suc n; at = r; is = ap (λ (z : Option Operation). met_at graph n 0 z env) o_is ∙ met_is }
 
   mark_meets : (node : ℕ) (env : List ℤ) (o : Option Operation) → operation_at graph node ≡ o → IsMark o → Meets graph node env
@@ -82,7 +83,8 @@ module _ (graph : FlowGraph) (is : IsFlowGraph graph) where
   meets zero node env below within = absurd (omega arith)
   meets (suc fuel) node env below within = on (λ next env lower. meets fuel next env (omega (arith, lower, below))) (operates node within)
     where
-      next_meets : ((next : ℕ) (env : List ℤ) → next < node → next < length graph.ops → Meets graph next env) → (next : ℕ) (env : List ℤ) → (next < node) ⊎ IsMark (operation_at graph next) → next < length graph.ops → Meets graph next env
+      next_meets : ((next : ℕ) (env : List ℤ) → next < node → next < length graph.ops → Meets graph next env) → (next : ℕ) (env : List ℤ) → (next < node)
+          ⊎ IsMark (operation_at graph next) → next < length graph.ops → Meets graph next env
       next_meets go next env (inl lower) inside = go next env lower inside
       next_meets go next env (inr mark) inside = mark_meets next env (operation_at graph next) refl mark
 
@@ -128,12 +130,14 @@ module _ (graph : FlowGraph) (is : IsFlowGraph graph) where
   met_fits zero marks node env r p = cc
   met_fits (suc n) marks node env r p = on (λ next env. met_fits n marks next env r) (operation_at graph node) refl p
     where
-      on : ((next : ℕ) (env : List ℤ) → met graph n marks next env ≡ Some r → FitsMet r) → (o : Option Operation) → operation_at graph node ≡ o → met_at graph n marks o env ≡ Some r → FitsMet r
+      on : ((next : ℕ) (env : List ℤ) → met graph n marks next env ≡ Some r → FitsMet r) → (o : Option Operation) → operation_at graph node ≡ o
+          → met_at graph n marks o env ≡ Some r → FitsMet r
       on go None o_is p = cc
       on go (Some (Set x e next)) o_is p = go next _ p
       on go (Some (Branch e first second)) o_is p = go (cond (is_nonzero (eval e env)) first second) env p
       on go (Some (Mark mark next)) o_is p =
-          let same : (place.Mark mark, values_of (variables_at graph (place.Mark mark)) env) ≡ r = (let e : Some (place.Mark mark, values_of (variables_at graph (place.Mark mark)) env) ≡ Some r = p in cc) in
+          let same : (place.Mark mark, values_of (variables_at graph (place.Mark mark)) env)
+          ≡ r = (let e : Some (place.Mark mark, values_of (variables_at graph (place.Mark mark)) env) ≡ Some r = p in cc) in
           let stop = is.marks node mark next o_is in
           let has : IsSome (stop_of graph.stops mark) = subst IsSome (sym stop.found) refl in
           subst FitsMet same (has, length-map (variables_at graph (place.Mark mark)) _)

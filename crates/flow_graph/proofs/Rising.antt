@@ -14,7 +14,8 @@ after_next k = omega arith
 
 pub front_increases : (x y : ℕ) (ys : List ℕ) → x < y → IsStrictlyIncreasing (y ∷ ys) → IsStrictlyIncreasing (x ∷ y ∷ ys)
 front_increases x y ys below rising zero within = below
-front_increases x y ys below rising (suc k) within = subst (λ (i : ℕ). slice_index (y ∷ ys) k < slice_index (x ∷ y ∷ ys) i) (after_next k) (rising k (omega arith))
+front_increases x y ys below rising (suc k) within = subst (λ (i : ℕ). slice_index (y ∷ ys) k < slice_index (x ∷ y ∷ ys) i) (after_next k)
+    (rising k (omega arith))
 
 pub first_below : (x y : ℕ) (ys : List ℕ) → IsStrictlyIncreasing (x ∷ y ∷ ys) → x < y
 first_below x y ys rising = rising 0 (omega arith)

@@ -22,5 +22,7 @@ pub record IsGraphOf (f : Program) (graph : FlowGraph) : Type 0 where
   pub scopes : (l : Place) → IsPlace f l → AreInScope f l (variables_at graph l)
   pub fits : (l : Place) (e : List ℤ) → HasPlace graph l → FitsPlace f l e ↔ (length e ≡ width_at graph l)
   pub traces : (inputs : List ℤ) (trace : Trace) → IsTrace f inputs trace ↔ IsGraphTrace graph inputs trace
-  pub segments : (l : Place) (e : List ℤ) (l' : Place) (e' : List ℤ) → IsSegment f l e l' e' ↔ IsGraphSegment graph l e l' e'
-  pub judged : (inputs : List ℤ) (limit : ℕ) (o : Outcome) → IsJudged f inputs limit o ↔ IsGraphJudged graph inputs limit o
+  pub segments : (l : Place) (e : List ℤ) (l' : Place) (e' : List ℤ)
+      → IsSegment f l e l' e' ↔ IsGraphSegment graph l e l' e'
+  pub judged : (inputs : List ℤ) (limit : ℕ) (o : Outcome)
+      → IsJudged f inputs limit o ↔ IsGraphJudged graph inputs limit o

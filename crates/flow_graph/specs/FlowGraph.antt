@@ -18,6 +18,10 @@ pub record FlowGraph : Type 0 where
   pub entry : ℕ
   pub stops : List Stop
 
+-- The graph of these parts.
+abbrev pub flow_graph : ℕ → ℕ → List Op → ℕ → List Stop → FlowGraph
+flow_graph params vars ops entry stops = record { params = params; vars = vars; ops = ops; entry = entry; stops = stops }
+
 -- The operation of the node with this number, where there is one.
 abbrev pub operation_at : FlowGraph → ℕ → Option Operation
 operation_at graph node = option_map operation_of (slice_get graph.ops node)

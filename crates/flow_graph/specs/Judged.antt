@@ -13,4 +13,5 @@ use Rattle.flow_graph.specs.Run.{seen_from}
 -- `limit + 1`, or `Wide` at the first value of 2^100 or more in size, whichever comes first.
 pub record IsGraphJudged (graph : FlowGraph) (inputs : List ℤ) (limit : ℕ) (o : Outcome) : Type 0 where
   pub steps : ℕ
-  pub is : seen_from evaluates_fitting (Some outcome.Wide) (at_most limit) returned graph steps 0 graph.entry (spread (first_variables graph.params) graph.vars inputs) ≡ Some o
+  pub is : seen_from evaluates_fitting (Some outcome.Wide) (at_most limit) returned graph steps 0 graph.entry
+      (spread (first_variables graph.params) graph.vars inputs) ≡ Some o

@@ -35,7 +35,9 @@ filled (Some mark) slots head test = slice_set (slots ++ Some test ∷ []) head 
 -- The statements in front of the node `next`, where `break` and `continue` lead to `out` and `again`.
 abbrev pub lay : Statements → Slots → ℕ → ℕ → ℕ → Layout
 lay tree.Nil slots next out again = layout slots next
-lay (tree.Set x e others) slots next out again = let behind = lay others slots next out again in added behind.slots (Some (Set x e behind.node))
+lay (tree.Set x e others) slots next out again =
+    let behind = lay others slots next out again in
+    added behind.slots (Some (Set x e behind.node))
 lay (tree.If e a b others) slots next out again =
     let behind = lay others slots next out again in
     let first = lay a behind.slots behind.node out again in
@@ -46,13 +48,25 @@ lay (tree.Loop mark e body step test_first others) slots next out again =
     let head = added behind.slots None in
     let tail = lay step head.slots head.node out again in
     let inner = lay body tail.slots tail.node behind.node tail.node in
-    layout (filled mark inner.slots head.node (Branch e inner.node behind.node)) (if test_first then head.node else inner.node)
-lay (tree.Break others) slots next out again = let behind = lay others slots next out again in layout behind.slots out
-lay (tree.Continue others) slots next out again = let behind = lay others slots next out again in layout behind.slots again
-lay (tree.Return e others) slots next out again = let behind = lay others slots next out again in added behind.slots (Some (Return e))
-lay (tree.Mark mark others) slots next out again = let behind = lay others slots next out again in added behind.slots (Some (Mark mark behind.node))
-lay (tree.Block a others) slots next out again = let behind = lay others slots next out again in lay a behind.slots behind.node out again
+    let test = Branch e inner.node behind.node in
+    layout (filled mark inner.slots head.node test) (if test_first then head.node else inner.node)
+lay (tree.Break others) slots next out again =
+    let behind = lay others slots next out again in
+    layout behind.slots out
+lay (tree.Continue others) slots next out again =
+    let behind = lay others slots next out again in
+    layout behind.slots again
+lay (tree.Return e others) slots next out again =
+    let behind = lay others slots next out again in
+    added behind.slots (Some (Return e))
+lay (tree.Mark mark others) slots next out again =
+    let behind = lay others slots next out again in
+    added behind.slots (Some (Mark mark behind.node))
+lay (tree.Block a others) slots next out again =
+    let behind = lay others slots next out again in
+    lay a behind.slots behind.node out again
 
 -- What a statement adds in front of what is laid behind it.
 pub record Lays (front : Statements → Statements) (out again : ℕ) (behind made : Layout) : Type 0 where
-  pub by : (others : Statements) (slots : Slots) (next : ℕ) → behind ≡ lay others slots next out again → made ≡ lay (front others) slots next out again
+  pub by : (others : Statements) (slots : Slots) (next : ℕ) → behind ≡ lay others slots next out again
+      → made ≡ lay (front others) slots next out again

@@ -43,11 +43,13 @@ values_of variables env = values_with (pos 0) variables env
 
 -- What an observer sees of a run, in the words of the observer of the source's steps: `holds` judges the expression that a
 -- step evaluates, `failed` is seen where it does not hold, `pass` is told of a mark, and `done` of the result.
-module _ {R : Type 0} (holds : Option Expression → List ℤ → Bool) (failed : Option R) (pass : ℕ → ℕ → List ℤ → Option R → Option R) (done : ℤ → R) (graph : FlowGraph) where
+module _ {R : Type 0} (holds : Option Expression → List ℤ → Bool) (failed : Option R)
+    (pass : ℕ → ℕ → List ℤ → Option R → Option R) (done : ℤ → R) (graph : FlowGraph) where
   -- What is seen of a turn, where the first argument tells what is seen after it.
   abbrev pub seen_turn : (ℕ → ℕ → List ℤ → Option R) → ℕ → Turn → Option R
   seen_turn others marks (Goes node env) = others marks node env
-  seen_turn others marks (Passes mark node env) = pass marks mark (values_of (variables_at graph (place.Mark mark)) env) (others (suc marks) node env)
+  seen_turn others marks (Passes mark node env) =
+      pass marks mark (values_of (variables_at graph (place.Mark mark)) env) (others (suc marks) node env)
   seen_turn others marks (Ends value) = Some (done value)
 
   -- The same of a node's operation, where there is one.
@@ -63,11 +65,13 @@ module _ {R : Type 0} (holds : Option Expression → List ℤ → Bool) (failed 
 -- Where the parameters have these values and all other variables are 0, some number of steps has this trace.
 pub record IsGraphTrace (graph : FlowGraph) (inputs : List ℤ) (trace : Trace) : Type 0 where
   pub steps : ℕ
-  pub ran : seen_from always None with_event no_event graph steps 0 graph.entry (spread (first_variables graph.params) graph.vars inputs) ≡ Some trace
+  pub ran : seen_from always None with_event no_event graph steps 0 graph.entry
+      (spread (first_variables graph.params) graph.vars inputs) ≡ Some trace
 
 -- From the place `l` with the values `e` in scope and 0 elsewhere, the next place that is met is `l'`, with the values `e'`.
 -- `e` may have any length: a variable in scope without a value is 0, and values beyond the variables in scope are left out.
 pub record IsGraphSegment (graph : FlowGraph) (l : Place) (e : List ℤ) (l' : Place) (e' : List ℤ) : Type 0 where
   pub from : GoesOnAt graph l
   pub steps : ℕ
-  pub met : seen_from always None at_mark at_exit graph steps 0 (node_after graph l) (spread (variables_at graph l) graph.vars e) ≡ Some (l', e')
+  pub met : seen_from always None at_mark at_exit graph steps 0 (node_after graph l)
+      (spread (variables_at graph l) graph.vars e) ≡ Some (l', e')

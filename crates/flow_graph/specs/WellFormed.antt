@@ -21,7 +21,8 @@ Leads at count node next = (next < count) × ((next < node) ⊎ IsMark (at next)
 -- least 1. Its edges lead down or to marks; one out of a mark may lead anywhere.
 abbrev pub Fits : (ℕ → Option Operation) → ℕ → ℕ → ℕ → Operation → Type 0
 Fits at count vars node (Set x e next) = (x < vars) × CanEvaluate vars e × Leads at count node next
-Fits at count vars node (Branch e first second) = CanEvaluate vars e × Leads at count node first × Leads at count node second
+Fits at count vars node (Branch e first second) =
+    CanEvaluate vars e × Leads at count node first × Leads at count node second
 Fits at count vars node (Mark mark next) = next < count
 Fits at count vars node (Return e) = CanEvaluate vars e
 
@@ -38,7 +39,8 @@ pub record IsFlowGraph (graph : FlowGraph) : Type 0 where
   pub parameters : graph.params ≤ graph.vars
   pub count : length graph.ops < 2 ^ 32
   pub entry : graph.entry < length graph.ops
-  pub fit : (node : ℕ) (op : Operation) → operation_at graph node ≡ Some op → Fits (operation_at graph) (length graph.ops) graph.vars node op
+  pub fit : (node : ℕ) (op : Operation) → operation_at graph node ≡ Some op
+      → Fits (operation_at graph) (length graph.ops) graph.vars node op
   pub marks : (node mark next : ℕ) → operation_at graph node ≡ Some (Mark mark next) → IsStop graph.stops mark next
   pub rising : IsStrictlyIncreasing (map (λ stop. stop.mark) graph.stops)
   pub afters : (mark : ℕ) (stop : Stop) → stop_of graph.stops mark ≡ Some stop

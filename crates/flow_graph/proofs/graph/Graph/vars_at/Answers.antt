@@ -16,7 +16,8 @@ pub loop-x-preserved : goal.loop-x-preserved
 loop-x-preserved c =
     let params : c.self.inside.params ≡ c.args.self.now.params = ap (λ (graph : FlowGraph). graph.params) c.self.view_is in
     let vars : c.self.inside.vars ≡ c.args.self.now.vars = ap (λ (graph : FlowGraph). graph.vars) c.self.view_is in
-    parameter_listed c.args.self.now.params c.args.self.now.vars c.loop-x.x _ c.loop-x.variables.items c.push.new.self.items (omega arith) (omega (arith, params, c.loop-x-test.true))
+    parameter_listed c.args.self.now.params c.args.self.now.vars c.loop-x.x _ c.loop-x.variables.items c.push.new.self.items (omega arith)
+    (omega (arith, params, c.loop-x-test.true))
     (omega (arith, params, vars, c.self.invariant.parameters)) c.loop-x.invariant c.in_ok-push-in-Entry.ensures.items
 
 pub returns-after-loop-x : goal.returns-after-loop-x
