@@ -1,10 +1,12 @@
 //! Files as a reader would read them, and what they stand for.
-ghost use Rattle.c_ast.specs.RawShape.{AreShaped};
-ghost use Rattle.c_ast.specs.RawView.{raw_put_in_front, raw_one, raw_statements_of};
+ghost use Rattle.c_ast.specs.RawShape.{AreShaped, HasNaturalConstants};
+ghost use Rattle.c_ast.specs.RawView.{raw_expression_of, raw_put_in_front, raw_one, raw_statements_of};
 ghost use Rattle.std.specs.Prelude.{◌≡◌, IfOk};
 
-use crate::{CheckFault, check, one_function};
-use c_ast::{Func, Name, RawCond, RawDeclarator, RawExpr, RawFunc, RawStmt, RawUnit, Var};
+use crate::{CheckFault, check, check_condition, one_condition, one_function};
+use c_ast::{
+    BinOp, Func, Name, RawCond, RawDeclarator, RawExpr, RawFunc, RawStmt, RawUnit, UnOp, Var,
+};
 use sqlite_items::{Boxed, Items};
 use std::alloc::{AllocError, Global};
 use std::test::Fail;
@@ -92,6 +94,40 @@ fn shown(alloc: Global, answer: Result<Func, CheckFault>) -> Result<String, Allo
     }
 }
 
+/// The expression behind a sign.
+fn signed(alloc: Global, op: UnOp, expr: RawExpr) -> Result<RawExpr, AllocError>
+    requires { HasNaturalConstants (raw_expression_of expr) }
+    ensures { IfOk result (λ made. HasNaturalConstants (raw_expression_of made)) }
+{
+    Ok(RawExpr::Un(op, Boxed::new(alloc, expr)?))
+}
+
+/// A division of `a0` on line 7, as the answer to a condition on a function with so many parameters.
+fn divided(alloc: Global, count: u32, op: BinOp, divisor: RawExpr) -> Result<String, AllocError>
+    requires { HasNaturalConstants (raw_expression_of divisor) }
+{
+    let left = RawExpr::Var(name(alloc, "a0")?, 1);
+    let left = Boxed::new(alloc, left)?;
+    let right = Boxed::new(alloc, divisor)?;
+    condition(alloc, count, RawExpr::Bin(op, 7, left, right))
+}
+
+/// The answer to a condition on a function with so many parameters.
+fn condition(alloc: Global, count: u32, raw: RawExpr) -> Result<String, AllocError>
+    requires { HasNaturalConstants (raw_expression_of raw) }
+{
+    let params = many(alloc, count)?;
+    let func = function(alloc, params, Items::new(alloc))?;
+    let funcs = Items::from_vec(vec![in alloc; func]?);
+    match check(alloc, RawUnit { funcs }) {
+        Err(fault) => format!(in alloc; "{fault:?}"),
+        Ok(func) => match check_condition(alloc, raw, &func) {
+            Ok(made) => format!(in alloc; "{made:?}"),
+            Err(fault) => format!(in alloc; "{fault:?}"),
+        },
+    }
+}
+
 #[test]
 fn files_hold_one_function(rt: HostRuntime) -> Result<(), Fail> {
     let alloc = rt.alloc();
@@ -152,6 +188,88 @@ fn faults_are_found(rt: HostRuntime) -> Result<(), Fail> {
         ),
     ];
     for (text, want) in rows {
+        assert_eq!(rt; text.as_str(), want);
+    }
+    Ok(())
+}
+
+/// What stands at the right of a division.
+#[derive(Clone, Copy)]
+enum Right {
+    /// `-(-(+3))`
+    Three,
+    /// `-3`
+    Negative,
+    /// `0`
+    Zero,
+    /// `-0`
+    MinusZero,
+    /// `!0`
+    NotZero,
+    /// `a0`, which stands at the left too.
+    Same,
+    /// `a1`
+    Other,
+}
+
+fn right_operand(alloc: Global, right: Right) -> Result<RawExpr, AllocError>
+    ensures { IfOk result (λ made. HasNaturalConstants (raw_expression_of made)) }
+{
+    match right {
+        Right::Three => {
+            let positive = signed(alloc, UnOp::Plus, RawExpr::Num(3))?;
+            let negative = signed(alloc, UnOp::Minus, positive)?;
+            signed(alloc, UnOp::Minus, negative)
+        }
+        Right::Negative => signed(alloc, UnOp::Minus, RawExpr::Num(3)),
+        Right::Zero => Ok(RawExpr::Num(0)),
+        Right::MinusZero => signed(alloc, UnOp::Minus, RawExpr::Num(0)),
+        Right::NotZero => signed(alloc, UnOp::Not, RawExpr::Num(0)),
+        Right::Same => Ok(RawExpr::Var(name(alloc, "a0")?, 1)),
+        Right::Other => Ok(RawExpr::Var(name(alloc, "a1")?, 2)),
+    }
+}
+
+/// Divisions of `a0`, in conditions on functions with so many parameters.
+const DIVISIONS: [(u32, BinOp, Right, &str); 9] = [
+    (
+        1,
+        BinOp::Div,
+        Right::Three,
+        "Bin(Div, Boxed { inner: Var(0) }, Boxed { inner: Num(3) })",
+    ),
+    (
+        1,
+        BinOp::Div,
+        Right::Negative,
+        "Un(Minus, Boxed { inner: Bin(Div, Boxed { inner: Var(0) }, Boxed { inner: Num(3) }) })",
+    ),
+    (
+        1,
+        BinOp::Rem,
+        Right::Negative,
+        "Bin(Rem, Boxed { inner: Var(0) }, Boxed { inner: Num(3) })",
+    ),
+    (1, BinOp::Div, Right::Zero, "Divisor { line: 7 }"),
+    (1, BinOp::Rem, Right::MinusZero, "Divisor { line: 7 }"),
+    (1, BinOp::Div, Right::NotZero, "Divisor { line: 7 }"),
+    (1, BinOp::Div, Right::Same, "Divisor { line: 7 }"),
+    (1, BinOp::Rem, Right::Other, "Divisor { line: 7 }"),
+    (
+        0,
+        BinOp::Div,
+        Right::Zero,
+        "Undeclared { name: Name(\"a0\"), line: 1 }",
+    ),
+];
+
+#[test]
+fn divisors_are_constants(rt: HostRuntime) -> Result<(), Fail> {
+    let alloc = rt.alloc();
+    one_condition();
+    for (count, op, right, want) in DIVISIONS {
+        let divisor = right_operand(alloc, right)?;
+        let text = divided(alloc, count, op, divisor)?;
         assert_eq!(rt; text.as_str(), want);
     }
     Ok(())
