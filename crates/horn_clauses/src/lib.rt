@@ -7,10 +7,12 @@
 
 mod atom;
 mod family;
+mod law;
 mod node;
 #[cfg(test)]
 mod tests;
 
 pub use atom::{Atom, Rel};
 pub use family::Family;
+pub use law::law_of_nodes;
 pub use node::Node;

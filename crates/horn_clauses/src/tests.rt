@@ -18,8 +18,8 @@ fn are_small(coefs: &[i64]) -> bool
     coefs.iter().all(|coef| coef.unsigned_abs() <= 2)
 }
 
-fn are_narrow(values: &[i128]) -> bool
-    ensures { IsTrue result → All (λ value. unsigned_abs value < 2 ^ 100) values.now }
+fn fit_run(values: &[i128]) -> bool
+    ensures { IsTrue result → All FitsRun values.now }
 {
     values.iter().all(|value| value.unsigned_abs() < 1 << 100)
 }
@@ -38,7 +38,7 @@ fn judged(
     {
         return Ok(None);
     }
-    if !are_small(coefs) || !are_narrow(values) {
+    if !are_small(coefs) || !fit_run(values) {
         return Ok(None);
     }
     let coefs = Items::from_slice(alloc, coefs)?;
