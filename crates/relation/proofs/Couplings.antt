@@ -1,20 +1,33 @@
--- What a coupling says is an invariant.
-use Rattle.std.proofs.Common.{◌≡◌, ℕ, List, [], ◌∷◌, ◌++◌, length, Option, Some, None, ℤ, refl, sym, ap, subst}
+-- What a coupling says is an invariant: its atoms hold at the entries, and force equal results at the exits.
+use Rattle.std.proofs.Common.{◌≡◌, ℕ, List, [], ◌∷◌, ◌++◌, length, Option, Some, None, ℤ, refl, sym, ap, subst, inl, inr}
 use Rattle.std.specs.Prelude.{All, IsSomeAnd}
+use Rattle.std.proofs.lemmas.List.Elements.{All-contains}
 use Rattle.c_ast.specs.Tree.{Expression, Program}
 use Rattle.c_ast.specs.Condition.{Meets}
 use Rattle.alignment.proofs.Laws.{entries_are_not_met}
 use Rattle.horn_clauses.specs.declared.atom.Atom.{Atom}
+use Rattle.horn_clauses.specs.declared.atom.Atom.TheVariants.{False}
 use Rattle.horn_clauses.specs.declared.node.Node.{Node}
 use Rattle.horn_clauses.specs.declared.family.Family.{Family}
 use Rattle.horn_clauses.specs.Atom.{AtomHolds}
 use Rattle.horn_clauses.specs.Node.{entries, exits}
 use Rattle.horn_clauses.specs.Family.{atoms_at}
-use Rattle.horn_clauses.specs.Equalities.{equal_parameters}
+use Rattle.horn_clauses.specs.Equalities.{equal_parameters, equal_results}
+use Rattle.horn_clauses.proofs.Laws.{parameters_are_equal, results_are_equal}
 use Rattle.relation.specs.Invariants.{IsInvariant}
 use Rattle.relation.specs.Coupling.{ForcesEqualResults, IsInFamily, IsCoupling, LawOfCouplings, CouplesUnderEach}
-use Rattle.relation.proofs.Values.{equal_parameters_hold, forced}
 use Rattle.relation.proofs.Following.{invariants_force}
+
+-- Where both sides have the same inputs, all atoms at the entries hold.
+equal_parameters_hold : (n : ℕ) (inputs : List ℤ) → length inputs ≡ n → All (λ atom. AtomHolds atom (inputs ++ inputs)) (equal_parameters n)
+equal_parameters_hold n inputs long =
+    subst (λ (k : ℕ). All (λ atom. AtomHolds atom (inputs ++ inputs)) (equal_parameters k)) long ((parameters_are_equal inputs inputs refl).1 refl)
+
+-- Results of which all atoms at the exits hold are equal.
+forced : (u v : ℤ) (atoms : List Atom) → ForcesEqualResults atoms → All (λ atom. AtomHolds atom (u ∷ v ∷ [])) atoms → u ≡ v
+forced u v atoms (inl has) all =
+    (results_are_equal u v).0 (All-contains (λ (atom : Atom). AtomHolds atom (u ∷ v ∷ [])) atoms equal_results all has)
+forced u v atoms (inr has) all = absurd (All-contains (λ (atom : Atom). AtomHolds atom (u ∷ v ∷ [])) atoms False all has)
 
 forced_by : (u v : ℤ) (atoms : Option (List Atom)) → IsSomeAnd atoms ForcesEqualResults
     → IsSomeAnd atoms (All (λ atom. AtomHolds atom (u ∷ v ∷ []))) → u ≡ v

@@ -1,6 +1,6 @@
-pub mod Values
 pub mod Moving
 pub mod Following
 pub mod Couplings
 pub mod Laws
 pub mod Samples
+pub mod LoopSamples

@@ -19,7 +19,7 @@ use Rattle.relation.specs.Invariants.{AreKept}
 use Rattle.relation.specs.Coupling.{IsInFamily, IsCoupling}
 
 -- int f(int n) { int i = 0; while (i < n) i = i + 1; return i; }, where the loop has the mark 7
-counter : Program
+unfoldable pub counter : Program
 counter = record {
   params = 1;
   vars = 2;
