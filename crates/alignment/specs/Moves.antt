@@ -23,6 +23,7 @@ Takes Segment (suc n) (place.Mark k) e l' e' =
 
 -- At the node of the places `l` and `r`, where the values are `d` and `e`, both sides take their segments of the alignment,
 -- and then stand at `l'` and `r'` with `d'` and `e'`.
-pub record Moves (First Second : Place → List ℤ → Place → List ℤ → Type 0) (alignment : ℕ) (l r : Place) (d e : List ℤ) (l' r' : Place) (d' e' : List ℤ) : Type 0 where
+pub record Moves (First Second : Place → List ℤ → Place → List ℤ → Type 0) (alignment : ℕ) (l r : Place) (d e : List ℤ)
+    (l' r' : Place) (d' e' : List ℤ) : Type 0 where
   pub first : Takes First (counts_at (counts_of alignment) l r).0 l d l' d'
   pub second : Takes Second (counts_at (counts_of alignment) l r).1 r e r' e'

@@ -54,7 +54,7 @@ module _ (n : ℕ) (d e : List ℤ) (long : length d ≡ n) where
   first_or_later zero zero below = inl refl
   first_or_later zero (suc j) below = inr (omega arith)
   first_or_later (suc i) zero below = absurd (omega arith)
-  first_or_later (suc i) (suc j) below = elim (first_or_later i j (omega arith)) [ | inl same ↦ inl (ap suc same) | inr later ↦ inr (omega (arith, later)) ]
+  first_or_later (suc i) (suc j) below = elim (first_or_later i j (omega arith)) [ inl same ↦ inl (ap suc same) | inr later ↦ inr (omega (arith, later)) ]
 
   say_equal : (i more : ℕ) → i + more ≤ n → All Holds (equalities_from n i more) → (j : ℕ) → i ≤ j → j < i + more
       → get_or d j (pos 0) ≡ get_or e j (pos 0)

@@ -21,8 +21,8 @@ pub enum Rel {
 pub enum Atom {
     /// It never holds: the node is not met.
     False,
-    /// The sum of the values, each times its coefficient, is the constant or at least that. There is a coefficient for
-    /// each value.
+    /// The sum of the values, each times its coefficient, is the constant or at least that. There
+    /// is a coefficient for each value.
     Linear {
         coefs: Items<i64>,
         constant: i64,

@@ -51,9 +51,11 @@ fn same_entry(first: &(Node, Items<Atom>), second: &(Node, Items<Atom>)) -> bool
 impl Family {
     ghost use Rattle.horn_clauses.specs.Family.{atoms_at};
 
-    /// The atoms at the node, where the family has it: those of its first entry there. Takes no memory.
+    /// The atoms at the node, where the family has it: those of its first entry there. Takes no
+    /// memory.
     pub fn at(&self, node: &Node) -> Option<&[Atom]>
-        ensures { MatchOption result (atoms_at self.now node.now ≡ None) (λ atoms. atoms_at self.now node.now ≡ Some atoms.now) }
+        ensures { MatchOption result (atoms_at self.now node.now ≡ None)
+            (λ atoms. atoms_at self.now node.now ≡ Some atoms.now) }
     {
         for entry in self.nodes.as_slice() {
             if entry.0.same(node) {

@@ -7,7 +7,8 @@ pub fn law_of_nodes()
     ensures { LawOfNodes }
 {}
 
-/// The atoms with which a coupling begins and ends say that parameters, and results, are the same on both sides.
+/// The atoms with which a coupling begins and ends say that parameters, and results, are the same
+/// on both sides.
 pub fn law_of_equalities()
     ensures parameters { ParametersAreEqual }
     ensures results { ResultsAreEqual }

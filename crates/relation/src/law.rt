@@ -2,14 +2,14 @@
 ghost use Rattle.relation.specs.Invariants.{LawOfInvariants};
 ghost use Rattle.relation.specs.Coupling.{LawOfCouplings, CouplesUnderEach};
 
-/// What is said at the entries, kept by the moves of both functions, and forces equal results at the exits, shows that no
-/// inputs that meet the condition make the two return differently.
+/// What is said at the entries, kept by the moves of both functions, and forces equal results at
+/// the exits, shows that no inputs that meet the condition make the two return differently.
 pub fn law_of_invariants()
     ensures { LawOfInvariants }
 {}
 
-/// Where a family is a coupling of two functions, no inputs that meet the condition make the two return differently. A
-/// coupling of all inputs is one under each condition.
+/// Where a family is a coupling of two functions, no inputs that meet the condition make the two
+/// return differently. A coupling of all inputs is one under each condition.
 pub fn law_of_couplings()
     ensures couplings { LawOfCouplings }
     ensures each { CouplesUnderEach }
