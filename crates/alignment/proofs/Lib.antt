@@ -1,2 +1,4 @@
 pub mod Rows
+pub mod Moving
+pub mod Laws
 pub mod Samples

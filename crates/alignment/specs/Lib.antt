@@ -1,3 +1,4 @@
 pub mod Number
 pub mod Counts
 pub mod Moves
+pub mod Laws

@@ -1,5 +1,5 @@
-//! The twelve alignments, numbered from 1. Each has four counts: at the entries the sides take 1 + p and 1 + q segments,
-//! and at one mark a and b.
+//! The twelve alignments, numbered from 1. Each has four counts: at the entries the sides take 1
+//! + p and 1 + q segments, and at one mark a and b.
 ghost use Rattle.std.specs.Prelude.{◌≡◌, ◌<◌, ◌≤◌, ◌↔◌, ◌∷◌, []};
 ghost use Rattle.alignment.specs.Counts.{at_marks};
 
@@ -94,15 +94,20 @@ impl Alignment {
         ensures counts { result ≡ counts_of self.now }
         ensures few_first { result.0 ≤ 2 }
         ensures few_second { result.1 ≤ 2 }
-        ensures some_at_marks { 0 < result.2 }
+        ensures some_at_marks { (0 < result.2) × (0 < result.3) }
+        ensures named { IsAlignment self.now }
     {
         ROWS[self.number as usize - 1]
     }
 
-    /// How many segments each side takes where the first function is at `first` and the second at `second`.
+    /// How many segments each side takes where the first function is at `first` and the second at
+    /// `second`.
     pub fn moves(&self, first: Place, second: Place) -> (u32, u32)
         requires { (first ≡ Place.Entry) ↔ (second ≡ Place.Entry) }
-        ensures { result ≡ counts_at (counts_of self.now) first second }
+        ensures counts { result ≡ counts_at (counts_of self.now) first second }
+        ensures few_first { result.0 ≤ 3 }
+        ensures few_second { result.1 ≤ 3 }
+        ensures named { IsAlignment self.now }
     {
         let counts = self.counts();
         match (first, second) {

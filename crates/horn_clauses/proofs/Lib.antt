@@ -1,1 +1,4 @@
+pub mod Nodes
+pub mod Values
+pub mod Laws
 pub mod Samples

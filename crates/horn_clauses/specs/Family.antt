@@ -6,12 +6,12 @@ use Rattle.horn_clauses.specs.declared.family.Family.{Family}
 use Rattle.horn_clauses.specs.Atom.{AtomHolds}
 use Rattle.horn_clauses.specs.Node.{is_same_node}
 
--- the atoms of the first entry for the node, where there is one
+-- The atoms of the first entry for the node, where there is one.
 abbrev pub atoms_among : List (Node × List Atom) → Node → Option (List Atom)
 atoms_among [] node = None
 atoms_among (entry ∷ entries) node = if is_same_node entry.0 node then Some entry.1 else atoms_among entries node
 
--- the family's atoms at the node, where it has the node
+-- The family's atoms at the node, where it has the node.
 abbrev pub atoms_at : Family → Node → Option (List Atom)
 atoms_at family node = atoms_among family.nodes node
 

@@ -1,3 +1,4 @@
 pub mod Atom
 pub mod Node
 pub mod Family
+pub mod Equalities

@@ -1,9 +1,11 @@
 //! Linear facts about the values at a node.
-ghost use Rattle.std.specs.Prelude.{◌≡◌, ◌<◌, ◌≤◌, ◌^◌, ◌*ℤ◌, ◌↔◌, IsTrue, unsigned_abs};
+ghost use Rattle.std.specs.Prelude.{◌≡◌, ◌<◌, ◌≤◌, ◌^◌, ◌*ℤ◌, ◌↔◌, IsTrue, IfOk, unsigned_abs};
+ghost use Rattle.c_ast.specs.FitsRun.{FitsRun};
 ghost use Rattle.lin_terms.specs.Vectors.{dot};
 ghost use Rattle.horn_clauses.specs.Atom.{AtomHolds, CanAdd, CanJudge, Stands};
 
 use sqlite_items::Items;
+use std::alloc::{AllocError, Global};
 
 /// How a sum stands to its constant.
 #[derive(Clone, Copy, Debug, PartialEq, Eq)]
@@ -19,8 +21,8 @@ pub enum Rel {
 pub enum Atom {
     /// It never holds: the node is not met.
     False,
-    /// The sum of the values, each times its coefficient, is the constant or at least that. There is a coefficient for
-    /// each value.
+    /// The sum of the values, each times its coefficient, is the constant or at least that. There
+    /// is a coefficient for each value.
     Linear {
         coefs: Items<i64>,
         constant: i64,
@@ -30,9 +32,9 @@ pub enum Atom {
 
 fn product(coef: &i64, value: &i128) -> i128
     requires small { unsigned_abs coef.now ≤ 2 }
-    requires narrow { unsigned_abs value.now < 2 ^ 100 }
+    requires fits { FitsRun value.now }
     ensures product { result ≡ coef.now *ℤ value.now }
-    ensures narrow { unsigned_abs result < 2 ^ 101 }
+    ensures below { unsigned_abs result < 2 ^ 101 }
 {
     i128::from(*coef) * *value
 }
@@ -57,6 +59,12 @@ fn stands(rel: Rel, sum: i128, constant: i128) -> bool
     }
 }
 
+fn same_coefs(first: &[i64], second: &[i64]) -> bool
+    ensures { IsTrue result ↔ (first.now ≡ second.now) }
+{
+    first == second
+}
+
 impl Atom {
     /// Whether the atom holds of these values. Takes no memory.
     pub fn holds(&self, values: &[i128]) -> bool
@@ -70,6 +78,53 @@ impl Atom {
                 constant,
                 rel,
             } => stands(*rel, dot(coefs.as_slice(), values), i128::from(*constant)),
+        }
+    }
+
+    /// The same atom again.
+    pub fn copy(&self, alloc: Global) -> Result<Atom, AllocError>
+        ensures { IfOk result (λ made. made ≡ self.now) }
+    {
+        match self {
+            Atom::False => Ok(Atom::False),
+            Atom::Linear {
+                coefs,
+                constant,
+                rel,
+            } => {
+                let coefs = Items::from_slice(alloc, coefs.as_slice())?;
+                Ok(Atom::Linear {
+                    coefs,
+                    constant: *constant,
+                    rel: *rel,
+                })
+            }
+        }
+    }
+
+    /// Whether the two atoms are equal, coefficient by coefficient.
+    pub fn same(&self, other: &Atom) -> bool
+        ensures { IsTrue result ↔ (self.now ≡ other.now) }
+    {
+        match (self, other) {
+            (Atom::False, Atom::False) => true,
+            (
+                Atom::Linear {
+                    coefs,
+                    constant,
+                    rel,
+                },
+                Atom::Linear {
+                    coefs: other_coefs,
+                    constant: other_constant,
+                    rel: other_rel,
+                },
+            ) => {
+                *rel == *other_rel
+                    && *constant == *other_constant
+                    && same_coefs(coefs.as_slice(), other_coefs.as_slice())
+            }
+            _ => false,
         }
     }
 }

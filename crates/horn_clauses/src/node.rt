@@ -1,5 +1,5 @@
 //! The nodes at which two functions are compared.
-ghost use Rattle.std.specs.Prelude.{◌↔◌, IsTrue};
+ghost use Rattle.std.specs.Prelude.{◌≡◌, ◌↔◌, IsTrue};
 
 use c_ast::Place;
 
@@ -15,5 +15,12 @@ impl Node {
         ensures { IsTrue result ↔ StandsBefore self.now other.now }
     {
         self < other
+    }
+
+    /// Whether the two nodes are one.
+    pub fn same(&self, other: &Node) -> bool
+        ensures { IsTrue result ↔ (self.now ≡ other.now) }
+    {
+        self == other
     }
 }

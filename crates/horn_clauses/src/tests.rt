@@ -1,5 +1,6 @@
-//! Atoms judged by hand, and nodes in their order.
-ghost use Rattle.std.specs.Prelude.{◌≤◌, ◌<◌, ◌^◌, IsTrue, All, unsigned_abs};
+//! Atoms judged by hand, nodes in their order, and what a family has at a node.
+ghost use Rattle.std.specs.Prelude.{◌≤◌, IsTrue, All, unsigned_abs};
+ghost use Rattle.c_ast.specs.FitsRun.{FitsRun};
 
 use crate::{Atom, Family, Node, Rel};
 use c_ast::Place;
@@ -18,8 +19,8 @@ fn are_small(coefs: &[i64]) -> bool
     coefs.iter().all(|coef| coef.unsigned_abs() <= 2)
 }
 
-fn are_narrow(values: &[i128]) -> bool
-    ensures { IsTrue result → All (λ value. unsigned_abs value < 2 ^ 100) values.now }
+fn fit_run(values: &[i128]) -> bool
+    ensures { IsTrue result → All FitsRun values.now }
 {
     values.iter().all(|value| value.unsigned_abs() < 1 << 100)
 }
@@ -38,7 +39,7 @@ fn judged(
     {
         return Ok(None);
     }
-    if !are_small(coefs) || !are_narrow(values) {
+    if !are_small(coefs) || !fit_run(values) {
         return Ok(None);
     }
     let coefs = Items::from_slice(alloc, coefs)?;
@@ -113,9 +114,34 @@ fn nodes_stand_in_their_order(rt: HostRuntime) -> Result<(), Fail> {
             assert_eq!(rt; first.is_before(second), i < j, "{first:?} and {second:?}");
         }
     }
+    Ok(())
+}
+
+/// The atom `x - y = constant`.
+fn difference_is(alloc: Global, constant: i64) -> Result<Atom, AllocError> {
+    Ok(Atom::Linear {
+        coefs: Items::from_slice(alloc, &[1, -1])?,
+        constant,
+        rel: Rel::Eq,
+    })
+}
+
+#[test]
+fn first_entry_for_a_node_counts(rt: HostRuntime) -> Result<(), Fail> {
+    let alloc = rt.alloc();
+    let (entries, exits) = (
+        Node(Place::Entry, Place::Entry),
+        Node(Place::Exit, Place::Exit),
+    );
+    let first = Items::from_vec(vec![in alloc; difference_is(alloc, 0)?, Atom::False]?);
+    let second = Items::from_vec(vec![in alloc; difference_is(alloc, 1)?]?);
     let family = Family {
-        nodes: Items::from_vec(vec![in rt.alloc(); (nodes[0], Items::new(rt.alloc()))]?),
+        nodes: Items::from_vec(vec![in alloc; (entries, first), (entries, second)]?),
     };
-    assert_eq!(rt; family.nodes.len(), 1);
+    assert_eq!(rt; family.at(&entries).map(|atoms| atoms.len()), Some(2));
+    assert_eq!(rt; family.at(&exits).map(|atoms| atoms.len()), None);
+    let other = family.copy(alloc)?;
+    assert!(rt; family.same(&other));
+    assert!(rt; !difference_is(alloc, 0)?.same(&difference_is(alloc, 1)?));
     Ok(())
 }

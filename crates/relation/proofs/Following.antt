@@ -1,26 +1,18 @@
--- Two runs that return are followed to the exits.
-use Rattle.std.proofs.Common.{◌≡◌, ◌≢◌, ℕ, zero, suc, ◌+◌, ◌<◌, ◌≤◌, ◌⊎◌, inl, inr, List, [], ◌∷◌, ◌++◌, length, Option, Some, None, ℤ, refl, sym, ap, ◌∙◌, subst, arith}
-use Rattle.std.specs.Prelude.{All, IsSomeAnd}
+-- Two runs that return are followed to the exits, whatever is said and kept on the way.
+use Rattle.std.proofs.Common.{◌≡◌, ◌≢◌, ℕ, zero, suc, ◌+◌, ◌≤◌, ◌⊎◌, inl, inr, true, List, [], ◌∷◌, length, ℤ, refl, sym, ap, ◌∙◌, subst, arith}
 use Rattle.c_ast.specs.declared.place.Place.{Place}
 use Rattle.c_ast.specs.declared.place.Place.TheVariants as place
 use Rattle.c_ast.specs.Tree.{Program}
 use Rattle.c_ast.specs.Formed.{IsProgram}
 use Rattle.c_ast.specs.Returns.{Returns}
 use Rattle.c_ast.specs.Segment.{FitsPlace}
+use Rattle.c_ast.proofs.Laws.{trace_returns, trace_is_segments, exit_is_last}
 use Rattle.alignment.specs.Number.{IsAlignment}
 use Rattle.alignment.specs.Counts.{counts_of, counts_at}
-use Rattle.alignment.proofs.Rows.{a_is_positive}
-use Rattle.horn_clauses.specs.declared.atom.Atom.{Atom}
-use Rattle.horn_clauses.specs.declared.family.Family.{Family}
-use Rattle.horn_clauses.specs.Atom.{AtomHolds}
 use Rattle.horn_clauses.specs.declared.node.Node.{Node}
-use Rattle.horn_clauses.specs.Node.{node}
-use Rattle.horn_clauses.specs.Family.{atoms_at, InFamily}
-use Rattle.relation.specs.Segments.{LeadsOut}
-use Rattle.relation.specs.Coupling.{ForcesEqualResults, IsCoupling}
-use Rattle.relation.proofs.Splitting.{returns_leads_out, leads_from_exit}
-use Rattle.relation.proofs.Moving.{takes_some, some_moves}
-use Rattle.relation.proofs.Values.{equal_parameters_hold, forced}
+use Rattle.horn_clauses.specs.Node.{node, exits}
+use Rattle.relation.specs.Invariants.{AreKept, InvariantsForce, LawOfInvariants}
+use Rattle.relation.proofs.Moving.{LeadsOut, leads_out, takes_some, some_moves}
 
 leads_fits : (f : Program) (l : Place) (e : List ℤ) (n : ℕ) (result : ℤ) → LeadsOut f l e n result → FitsPlace f l e
 leads_fits f l e zero result leads =
@@ -29,67 +21,72 @@ leads_fits f l e zero result leads =
     subst (λ (z : Place). FitsPlace f z e) (sym leads.0) there
 leads_fits f l e (suc n) result leads = leads.0
 
-first_not_out : (l r : Place) → l ≢ place.Exit → node l r ≢ node place.Exit place.Exit
-first_not_out l r away same = away (ap (λ (n : Node). n.0) same)
+-- At the exit no segment is left, and the result is the value there.
+leads_from_exit : (f : Program) (e : List ℤ) (n : ℕ) (result : ℤ) → LeadsOut f place.Exit e n result → e ≡ result ∷ []
+leads_from_exit f e zero result leads = leads.1
+leads_from_exit f e (suc n) result leads = absurd (exit_is_last f e leads.1 leads.2 leads.3)
 
-second_not_out : (l r : Place) → r ≢ place.Exit → node l r ≢ node place.Exit place.Exit
-second_not_out l r away same = away (ap (λ (n : Node). n.1) same)
+not_exits : (l r : Place) → ¬ ((l ≡ place.Exit) × (r ≡ place.Exit)) → node l r ≢ exits
+not_exits l r away same = away (ap (λ (n : Node). n.0) same, ap (λ (n : Node). n.1) same)
 
--- Whether the node is that of the two exits.
-decide_exits : (l r : Place) → ((l ≡ place.Exit) × (r ≡ place.Exit)) ⊎ (node l r ≢ node place.Exit place.Exit)
-decide_exits place.Entry r = inr (first_not_out place.Entry r (λ same. cc))
-decide_exits (place.Mark k) r = inr (first_not_out (place.Mark k) r (λ same. cc))
-decide_exits place.Exit place.Entry = inr (second_not_out place.Exit place.Entry (λ same. cc))
-decide_exits place.Exit (place.Mark k) = inr (second_not_out place.Exit (place.Mark k) (λ same. cc))
+-- Whether both places are exits.
+decide_exits : (l r : Place) → ((l ≡ place.Exit) × (r ≡ place.Exit)) ⊎ ¬ ((l ≡ place.Exit) × (r ≡ place.Exit))
+decide_exits place.Entry r = inr (λ both. let first = both.0 in cc)
+decide_exits (place.Mark k) r = inr (λ both. let first = both.0 in cc)
+decide_exits place.Exit place.Entry = inr (λ both. let second = both.1 in cc)
+decide_exits place.Exit (place.Mark k) = inr (λ both. let second = both.1 in cc)
 decide_exits place.Exit place.Exit = inl (refl, refl)
 
-forced_by : (u v : ℤ) (atoms : Option (List Atom)) → IsSomeAnd atoms ForcesEqualResults
-    → IsSomeAnd atoms (All (λ atom. AtomHolds atom (u ∷ v ∷ []))) → u ≡ v
-forced_by u v None forces all = absurd forces
-forced_by u v (Some atoms) forces all = forced u v atoms forces all
+module _ (f g : Program) (alignment : ℕ) (named : IsAlignment alignment) (Said : Node → List ℤ → List ℤ → Type 0) (kept : AreKept f g alignment Said) (u v : ℤ) where
+  at_exits : (d e : List ℤ) (i j : ℕ) → LeadsOut f place.Exit d i u → LeadsOut g place.Exit e j v → Said exits d e → Said exits (u ∷ []) (v ∷ [])
+  at_exits d e i j first second said =
+      let with_left : Said exits (u ∷ []) e = subst (λ (z : List ℤ). Said exits z e) (leads_from_exit f d i u first) said in
+      subst (λ (z : List ℤ). Said exits (u ∷ []) z) (leads_from_exit g e j v second) with_left
 
-module _ (f g : Program) (alignment : ℕ) (family : Family) (positive : 0 < (counts_of alignment).2) (coupling : IsCoupling f g alignment family) (u v : ℤ) where
-  at_exits : (d e : List ℤ) (i j : ℕ) → LeadsOut f place.Exit d i u → LeadsOut g place.Exit e j v
-      → InFamily family (node place.Exit place.Exit) (d ++ e) → u ≡ v
-  at_exits d e i j first second inside =
-      let left = leads_from_exit f d i u first in
-      let right = leads_from_exit g e j v second in
-      let with_left : InFamily family (node place.Exit place.Exit) ((u ∷ []) ++ e) =
-      subst (λ (z : List ℤ). InFamily family (node place.Exit place.Exit) (z ++ e)) left inside in
-      let with_both : InFamily family (node place.Exit place.Exit) ((u ∷ []) ++ (v ∷ [])) =
-      subst (λ (z : List ℤ). InFamily family (node place.Exit place.Exit) ((u ∷ []) ++ z)) right with_left in
-      forced_by u v (atoms_at family (node place.Exit place.Exit)) coupling.at_exits with_both
-
-  -- Where the values at a node are in the family, and n segments at most are left of both runs, the results are equal.
-  follow : (n : ℕ) (l r : Place) (d e : List ℤ) (i j : ℕ) → i + j ≤ n → LeadsOut f l d i u → LeadsOut g r e j v
-      → InFamily family (node l r) (d ++ e)
-      → ((l ≡ place.Exit) × (r ≡ place.Exit)) ⊎ (node l r ≢ node place.Exit place.Exit) → u ≡ v
-  follow n l r d e i j few first second inside (inl out) =
+  -- Where it is said at a node, and n segments at most are left of both runs, it is said of both results at the exits.
+  follow : (n : ℕ) (l r : Place) (d e : List ℤ) (i j : ℕ) → i + j ≤ n → LeadsOut f l d i u → LeadsOut g r e j v → Said (node l r) d e
+      → ((l ≡ place.Exit) × (r ≡ place.Exit)) ⊎ ¬ ((l ≡ place.Exit) × (r ≡ place.Exit)) → Said exits (u ∷ []) (v ∷ [])
+  follow n l r d e i j few first second said (inl out) =
       let first' = subst (λ (z : Place). LeadsOut f z d i u) out.0 first in
       let second' = subst (λ (z : Place). LeadsOut g z e j v) out.1 second in
-      let inside' = subst (λ (z : Place). InFamily family (node z r) (d ++ e)) out.0 inside in
-      let inside'' = subst (λ (z : Place). InFamily family (node place.Exit z) (d ++ e)) out.1 inside' in
-      at_exits d e i j first' second' inside''
-  follow zero l r d e i j few first second inside (inr away) =
+      let said' = subst (λ (z : Place). Said (node z r) d e) out.0 said in
+      let said'' = subst (λ (z : Place). Said (node place.Exit z) d e) out.1 said' in
+      at_exits d e i j first' second' said''
+  follow zero l r d e i j few first second said (inr away) =
       let a = takes_some f u (counts_at (counts_of alignment) l r).0 l d i first in
       let b = takes_some g v (counts_at (counts_of alignment) l r).1 r e j second in
-      absurd (omega (arith, a.fewer, b.fewer, some_moves (counts_of alignment) positive l r away))
-  follow (suc n) l r d e i j few first second inside (inr away) =
+      absurd (omega (arith, a.fewer, b.fewer, some_moves alignment l r named away))
+  follow (suc n) l r d e i j few first second said (inr away) =
       let a = takes_some f u (counts_at (counts_of alignment) l r).0 l d i first in
       let b = takes_some g v (counts_at (counts_of alignment) l r).1 r e j second in
-      let inside' = coupling.kept l r a.place_met b.place_met d e a.values_there b.values_there away (leads_fits f l d i u first) (leads_fits g r e j v second) inside
+      let said' = kept l r a.place_met b.place_met d e a.values_there b.values_there (not_exits l r away) (leads_fits f l d i u first) (leads_fits g r e j v second) said
       (record { first = a.takes; second = b.takes }) in
       follow n a.place_met b.place_met a.values_there b.values_there a.left b.left
-      (omega (arith, a.fewer, b.fewer, some_moves (counts_of alignment) positive l r away)) a.leads b.leads inside' (decide_exits a.place_met b.place_met)
+      (omega (arith, a.fewer, b.fewer, some_moves alignment l r named away)) a.leads b.leads said' (decide_exits a.place_met b.place_met)
 
-pub couplings_force_equal_results : (f g : Program) (alignment : ℕ) (family : Family) → IsProgram f → IsProgram g
-    → f.params ≡ g.params → IsAlignment alignment
-    → IsCoupling f g alignment family → (inputs : List ℤ) (v w : ℤ) → length inputs ≡ f.params → Returns f inputs v
-    → Returns g inputs w → v ≡ w
-couplings_force_equal_results f g alignment family first_formed second_formed arity named coupling inputs v w long first second =
-    let left = returns_leads_out f inputs v first_formed long first in
-    let right = returns_leads_out g inputs w second_formed (long ∙ arity) second in
-    let inside = subst (λ (z : Option (List Atom)). IsSomeAnd z (All (λ atom. AtomHolds atom (inputs ++ inputs)))) (sym coupling.at_entries)
-    (equal_parameters_hold f.params inputs long) in
-    follow f g alignment family (a_is_positive alignment named) coupling v w (left.0 + right.0) place.Entry place.Entry inputs inputs left.0 right.0 (omega arith) left.1 right.1 inside
-    (decide_exits place.Entry place.Entry)
+-- Segments lead from the entry, with the inputs, to the exit with what is returned.
+record Returning (f : Program) (inputs : List ℤ) (result : ℤ) : Type 0 where
+  pub segments : ℕ
+  pub leads : LeadsOut f place.Entry inputs segments result
+
+returning : (f : Program) (inputs : List ℤ) (result : ℤ) → IsProgram f → length inputs ≡ f.params → Returns f inputs result → Returning f inputs result
+returning f inputs result formed long ran =
+    let found = (trace_returns f inputs result).0 ran in
+    let through = (trace_is_segments f inputs found.0 formed long).0 found.1 in
+    record {
+      segments = suc (length found.0.events);
+      leads = subst (λ (z : ℤ). LeadsOut f place.Entry inputs (suc (length found.0.events)) z) found.2
+          (leads_out f place.Entry inputs found.0.events found.0.result long through);
+    }
+
+-- An invariant forces equal results, whatever it says.
+pub invariants_force : (Said : Node → List ℤ → List ℤ → Type 0) → InvariantsForce Said
+invariants_force Said f g condition alignment first_formed second_formed arity named invariant inputs v w long meets first second =
+    let a = returning f inputs v first_formed long first in
+    let b = returning g inputs w second_formed (long ∙ arity) second in
+    invariant.forces v w
+    (follow f g alignment named Said invariant.kept v w (a.segments + b.segments) place.Entry place.Entry inputs inputs a.segments b.segments (omega arith)
+    a.leads b.leads (invariant.begins inputs long meets) (decide_exits place.Entry place.Entry))
+
+pub law_of_invariants : LawOfInvariants
+law_of_invariants said = invariants_force (λ n d e. said n d e ≡ true)

@@ -1,9 +1,6 @@
-pub mod Environments
-pub mod Nesting
-pub mod Stepping
-pub mod Splitting
 pub mod Moving
-pub mod Values
 pub mod Following
-pub mod Joining
+pub mod Couplings
+pub mod Laws
 pub mod Samples
+pub mod LoopSamples

@@ -1,16 +1,37 @@
 -- Where runs return, the moves of an alignment end, and some side moves.
-use Rattle.std.proofs.Common.{◌≢◌, ℕ, zero, suc, ◌+◌, ◌<◌, ◌≤◌, Bool, true, false, cond, eqb, ltb, inl, inr, List, ℤ, refl, subst, arith}
-use Rattle.std.proofs.lemmas.Bool.{cases_eq}
+use Rattle.std.proofs.Common.{◌≡◌, ℕ, zero, suc, ◌+◌, ◌<◌, ◌≤◌, Bool, true, false, ◌⊎◌, inl, inr, List, [], ◌∷◌, length, ℤ, refl, arith}
 use Rattle.c_ast.specs.declared.place.Place.{Place}
 use Rattle.c_ast.specs.declared.place.Place.TheVariants as place
+use Rattle.c_ast.specs.declared.trace.Event.{Event}
+use Rattle.c_ast.specs.Place.{is_same_place}
 use Rattle.c_ast.specs.Tree.{Program}
-use Rattle.c_ast.specs.Segment.{IsSegment}
-use Rattle.alignment.specs.Counts.{Counts, counts_at}
-use Rattle.alignment.specs.Moves.{Takes}
-use Rattle.horn_clauses.specs.Node.{node}
-use Rattle.relation.specs.Segments.{LeadsOut}
+use Rattle.c_ast.specs.Segment.{FitsPlace, IsSegment}
+use Rattle.c_ast.specs.Passing.{LeadsThrough}
+use Rattle.c_ast.proofs.Laws.{meets_fitting_values}
+use Rattle.alignment.specs.Counts.{counts_of, counts_at}
+use Rattle.alignment.specs.Moves.{GoesOnOrStops, Takes}
+use Rattle.alignment.specs.Number.{IsAlignment}
+use Rattle.alignment.specs.Laws.{IsMoving}
+use Rattle.alignment.proofs.Laws.{some_side_moves}
 
--- how many segments are sure to be taken of at most n
+-- From the place `l` with the values `e`, as many as are in scope there, n segments lead to the exit with the result.
+abbrev pub LeadsOut : Program → Place → List ℤ → ℕ → ℤ → Type 0
+LeadsOut f l e zero result = (l ≡ place.Exit) × (e ≡ result ∷ [])
+LeadsOut f l e (suc n) result = FitsPlace f l e × (l' : Place) × (e' : List ℤ) × IsSegment f l e l' e' × LeadsOut f l' e' n result
+
+-- What leads through marks leads out, by one segment more than there are marks.
+pub leads_out : (f : Program) (l : Place) (e : List ℤ) (events : List Event) (result : ℤ) → FitsPlace f l e → LeadsThrough f l e events result
+    → LeadsOut f l e (suc (length events)) result
+leads_out f l e [] result fits leads = (fits, place.Exit, result ∷ [], leads, (refl, refl))
+leads_out f l e (event ∷ events) result fits leads = (
+  fits,
+  place.Mark event.mark,
+  event.values,
+  leads.0,
+  leads_out f (place.Mark event.mark) event.values events result (meets_fitting_values f l e (place.Mark event.mark) event.values leads.0) leads.1,
+)
+
+-- How many segments are sure to be taken of at most n.
 abbrev pub sure : ℕ → Place → ℕ
 sure zero l = 0
 sure (suc n) place.Entry = 1
@@ -21,40 +42,35 @@ sure (suc n) place.Exit = 0
 pub record TakesSome (f : Program) (n : ℕ) (l : Place) (e : List ℤ) (segments : ℕ) (result : ℤ) : Type 0 where
   pub place_met : Place
   pub values_there : List ℤ
-  pub takes : Takes f n l e place_met values_there
+  pub takes : Takes (IsSegment f) n l e place_met values_there
   pub left : ℕ
   pub leads : LeadsOut f place_met values_there left result
   pub fewer : left + sure n l ≤ segments
 
+-- By the test of the place where a segment ended, a side goes on or stops there. What is left of the run leads out.
+record TakesMore (f : Program) (n : ℕ) (again : Bool) (l : Place) (e : List ℤ) (segments : ℕ) (result : ℤ) : Type 0 where
+  pub place_met : Place
+  pub values_there : List ℤ
+  pub takes : GoesOnOrStops again (Takes (IsSegment f) n l e place_met values_there) ((place_met ≡ l) × (values_there ≡ e))
+  pub left : ℕ
+  pub leads : LeadsOut f place_met values_there left result
+  pub fewer : left ≤ segments
+
 module _ (f : Program) (result : ℤ) where
-  -- A segment from a mark to another place is the side's last one.
-  leaves : (n k m : ℕ) (e : List ℤ) (l : Place) (values : List ℤ) → IsSegment f (place.Mark k) e l values
-      → l ≢ place.Mark k → LeadsOut f l values m result
-      → TakesSome f (suc n) (place.Mark k) e (suc m) result
-  leaves n k m e l values segment other leads =
-      record { place_met = l; values_there = values; takes = inr (segment, other); left = m; leads = leads; fewer = omega arith }
+  takes_more : (n : ℕ) (again : Bool) (l : Place) (e : List ℤ) (segments : ℕ) → LeadsOut f l e segments result
+      → TakesSome f n l e segments result → TakesMore f n again l e segments result
+  takes_more n true l e segments leads goes = record {
+    place_met = goes.place_met;
+    values_there = goes.values_there;
+    takes = goes.takes;
+    left = goes.left;
+    leads = goes.leads;
+    fewer = omega (arith, goes.fewer);
+  }
+  takes_more n false l e segments leads goes =
+      record { place_met = l; values_there = e; takes = (refl, refl); left = segments; leads = leads; fewer = omega arith }
 
-  from_mark : (n k m : ℕ) (e : List ℤ) (l : Place) (values : List ℤ) → IsSegment f (place.Mark k) e l values
-      → LeadsOut f l values m result
-      → ((l : Place) (e : List ℤ) (m : ℕ) → LeadsOut f l e m result → TakesSome f n l e m result)
-      → TakesSome f (suc n) (place.Mark k) e (suc m) result
-  from_mark n k m e place.Entry values segment leads more = leaves n k m e place.Entry values segment (λ same. cc) leads
-  from_mark n k m e place.Exit values segment leads more = leaves n k m e place.Exit values segment (λ same. cc) leads
-  from_mark n k m e (place.Mark j) values segment leads more = elim (cases_eq j k) [
-    | inr other ↦ leaves n k m e (place.Mark j) values segment (λ same. other cc) leads
-    | inl same ↦
-        let again = subst (λ (i : ℕ). IsSegment f (place.Mark k) e (place.Mark i) values) same segment in
-        let goes = more (place.Mark k) values m (subst (λ (i : ℕ). LeadsOut f (place.Mark i) values m result) same leads) in
-        record {
-          place_met = goes.place_met;
-          values_there = goes.values_there;
-          takes = inl (values, again, goes.takes);
-          left = goes.left;
-          leads = goes.leads;
-          fewer = omega (arith, goes.fewer);
-        }
-  ]
-
+  -- Where segments lead out, those that a side takes are some of them.
   pub takes_some : (n : ℕ) (l : Place) (e : List ℤ) (segments : ℕ) → LeadsOut f l e segments result
       → TakesSome f n l e segments result
   takes_some zero l e segments leads =
@@ -74,29 +90,30 @@ module _ (f : Program) (result : ℤ) where
       }
   takes_some (suc n) (place.Mark k) e zero leads = cc
   takes_some (suc n) (place.Mark k) e (suc m) leads =
-      from_mark n k m e leads.1 leads.2 leads.3 leads.4 (λ l' e' m' leads'. takes_some n l' e' m' leads')
+      let goes = takes_more n (is_same_place leads.1 (place.Mark k)) leads.1 leads.2 m leads.4 (takes_some n leads.1 leads.2 m leads.4) in
+      record {
+        place_met = goes.place_met;
+        values_there = goes.values_there;
+        takes = (leads.1, leads.2, leads.3, goes.takes);
+        left = goes.left;
+        leads = goes.leads;
+        fewer = omega (arith, goes.fewer);
+      }
 
 -- ---- some side moves
 
-sure_at_mark : (n k : ℕ) → 0 < n → 0 < sure n (place.Mark k)
-sure_at_mark zero k positive = positive
-sure_at_mark (suc n) k positive = omega arith
+sure_to_move : (n : ℕ) (l : Place) → IsMoving n l → 0 < sure n l
+sure_to_move zero l moving = moving.0
+sure_to_move (suc n) place.Entry moving = omega arith
+sure_to_move (suc n) (place.Mark k) moving = omega arith
+sure_to_move (suc n) place.Exit moving = absurd (moving.1 refl)
 
-some_moves_at_marks : (counts : Counts) → 0 < counts.2 → (same lower : Bool) (j k : ℕ)
-    → let moves : ℕ × ℕ = cond same (counts.2, counts.3) (cond lower (1, 0) (0, 1)) in 0 < sure moves.0 (place.Mark j) + sure moves.1 (place.Mark k)
-some_moves_at_marks counts positive true lower j k = let first = sure_at_mark counts.2 j positive in omega arith
-some_moves_at_marks counts positive false true j k = omega arith
-some_moves_at_marks counts positive false false j k = omega arith
+some_is_sure : (m n : ℕ) (l r : Place) → IsMoving m l ⊎ IsMoving n r → 0 < sure m l + sure n r
+some_is_sure m n l r (inl moving) = let some = sure_to_move m l moving in omega (arith, some)
+some_is_sure m n l r (inr moving) = let some = sure_to_move n r moving in omega (arith, some)
 
 -- At every node but the two exits some side is sure to take a segment.
-pub some_moves : (counts : Counts) → 0 < counts.2 → (l r : Place) → node l r ≢ node place.Exit place.Exit
-    → 0 < sure (counts_at counts l r).0 l + sure (counts_at counts l r).1 r
-some_moves counts positive place.Entry place.Entry away = omega arith
-some_moves counts positive place.Entry (place.Mark k) away = omega arith
-some_moves counts positive place.Entry place.Exit away = omega arith
-some_moves counts positive (place.Mark j) place.Entry away = omega arith
-some_moves counts positive (place.Mark j) (place.Mark k) away = some_moves_at_marks counts positive (eqb j k) (ltb j k) j k
-some_moves counts positive (place.Mark j) place.Exit away = omega arith
-some_moves counts positive place.Exit place.Entry away = omega arith
-some_moves counts positive place.Exit (place.Mark k) away = omega arith
-some_moves counts positive place.Exit place.Exit away = absurd (away refl)
+pub some_moves : (alignment : ℕ) (l r : Place) → IsAlignment alignment → ¬ ((l ≡ place.Exit) × (r ≡ place.Exit))
+    → 0 < sure (counts_at (counts_of alignment) l r).0 l + sure (counts_at (counts_of alignment) l r).1 r
+some_moves alignment l r named away =
+    some_is_sure (counts_at (counts_of alignment) l r).0 (counts_at (counts_of alignment) l r).1 l r (some_side_moves alignment l r named away)

@@ -1,23 +1,25 @@
--- The definitions on small functions: segments, moves, and a coupling.
-use Rattle.std.proofs.Common.{◌≡◌, ◌≢◌, ℕ, zero, suc, inl, inr, true, List, [], ◌∷◌, ◌++◌, Some, ℤ, pos, negsuc, refl, sym, ap, subst, arith}
+-- The definitions on small functions: segments, moves, and couplings.
+use Rattle.std.proofs.Common.{◌≡◌, ℕ, zero, suc, inl, true, List, [], ◌∷◌, Some, ℤ, pos, negsuc, refl, sym, ap, subst, arith}
 use Rattle.c_ast.specs.declared.expr.BinOp.TheVariants.{Add, Less}
 use Rattle.c_ast.specs.declared.place.Place.{Place}
 use Rattle.c_ast.specs.declared.place.Place.TheVariants as place
 use Rattle.c_ast.specs.Tree.{Num, Var, Bin, Nil, Set, Loop, Return, Program}
+use Rattle.c_ast.specs.Condition.{no_condition}
 use Rattle.c_ast.specs.Step.{Work, scope_of, spread, start}
-use Rattle.c_ast.specs.Segment.{FitsPlace, IsSegment, met_within}
-use Rattle.alignment.specs.Counts.{counts_of}
-use Rattle.alignment.specs.Moves.{Takes, Moves}
+use Rattle.c_ast.specs.Segment.{IsSegment, met_within}
+use Rattle.alignment.specs.Counts.{table}
+use Rattle.alignment.specs.Moves.{Takes}
 use Rattle.horn_clauses.specs.declared.atom.Atom.TheVariants.{Linear}
 use Rattle.horn_clauses.specs.declared.atom.Rel.TheVariants.{Eq}
 use Rattle.horn_clauses.specs.declared.family.Family.{Family}
-use Rattle.horn_clauses.specs.Node.{node}
+use Rattle.horn_clauses.specs.Node.{node, entries}
 use Rattle.horn_clauses.specs.Family.{InFamily}
-use Rattle.relation.specs.Equalities.{equal_parameters, equal_results}
-use Rattle.relation.specs.Coupling.{IsCoupling}
+use Rattle.horn_clauses.specs.Equalities.{equal_parameters, equal_results}
+use Rattle.relation.specs.Invariants.{AreKept}
+use Rattle.relation.specs.Coupling.{IsInFamily, IsCoupling}
 
 -- int f(int n) { int i = 0; while (i < n) i = i + 1; return i; }, where the loop has the mark 7
-counter : Program
+unfoldable pub counter : Program
 counter = record {
   params = 1;
   vars = 2;
@@ -37,12 +39,12 @@ unfolding counter
 to_the_exit = record { work = _; from = inl (refl, refl); steps = 20; met = refl }
 
 -- From the entry two segments are taken, the second of which ends where it began.
-takes_two : Takes counter 2 place.Entry (pos 1 ∷ []) (place.Mark 7) (pos 1 ∷ pos 1 ∷ [])
-takes_two = (place.Mark 7, pos 1 ∷ pos 0 ∷ [], to_the_mark, inl (pos 1 ∷ pos 1 ∷ [], round_the_loop, (refl, refl)))
+takes_two : Takes (IsSegment counter) 2 place.Entry (pos 1 ∷ []) (place.Mark 7) (pos 1 ∷ pos 1 ∷ [])
+takes_two = (place.Mark 7, pos 1 ∷ pos 0 ∷ [], to_the_mark, (place.Mark 7, pos 1 ∷ pos 1 ∷ [], round_the_loop, (refl, refl)))
 
 -- A side that leaves its mark stops, though it has taken one segment of three.
-stops_early : Takes counter 3 (place.Mark 7) (pos 1 ∷ pos 1 ∷ []) place.Exit (pos 1 ∷ [])
-stops_early = inr (to_the_exit, λ same. cc)
+stops_early : Takes (IsSegment counter) 3 (place.Mark 7) (pos 1 ∷ pos 1 ∷ []) place.Exit (pos 1 ∷ [])
+stops_early = (place.Exit, pos 1 ∷ [], to_the_exit, (refl, refl))
 
 pairwise : equal_parameters 2
     ≡ Linear (pos 1 ∷ pos 0 ∷ negsuc 0 ∷ pos 0 ∷ []) (pos 0) Eq ∷ Linear (pos 0 ∷ pos 1 ∷ pos 0 ∷ negsuc 0 ∷ []) (pos 0) Eq ∷ []
@@ -94,34 +96,31 @@ copying_goes_out x met segment =
     after (suc (suc (suc n))) same = met_is (place.Exit, x ∷ []) met same
 
 -- One segment is taken from the entry.
-take_one : (f : Program) (e e' : List ℤ) (l' : Place) → Takes f 1 place.Entry e l' e' → IsSegment f place.Entry e l' e'
+take_one : (f : Program) (e e' : List ℤ) (l' : Place) → Takes (IsSegment f) 1 place.Entry e l' e' → IsSegment f place.Entry e l' e'
 take_one f e e' l' takes =
     let at_place = subst (λ (z : Place). IsSegment f place.Entry e z takes.1) (sym takes.3.0) takes.2 in
     subst (λ (z : List ℤ). IsSegment f place.Entry e l' z) (sym takes.3.1) at_place
 
-stays_equal : (x y : ℤ) (l' r' : Place) (d' e' : List ℤ) → InFamily equal (node place.Entry place.Entry) (x ∷ y ∷ [])
-    → (l' ≡ place.Exit) × (d' ≡ x ∷ [])
-    → (r' ≡ place.Exit) × (e' ≡ y ∷ []) → InFamily equal (node l' r') (d' ++ e')
+stays_equal : (x y : ℤ) (l' r' : Place) (d' e' : List ℤ) → InFamily equal entries (x ∷ y ∷ []) → (l' ≡ place.Exit) × (d' ≡ x ∷ [])
+    → (r' ≡ place.Exit) × (e' ≡ y ∷ []) → IsInFamily no_condition equal (node l' r') d' e'
 unfolding equal
-stays_equal x y l' r' d' e' inside first second = rw (first.0, first.1, second.0, second.1) inside
+stays_equal x y l' r' d' e' inside first second = record { inside = rw (first.0, first.1, second.0, second.1) inside; meets = λ same. refl }
 
-kept : (l r l' r' : Place) (d e d' e' : List ℤ) → node l r ≢ node place.Exit place.Exit → FitsPlace plain l d
-    → FitsPlace copying r e
-    → InFamily equal (node l r) (d ++ e) → Moves plain copying 1 l r d e l' r' d' e' → InFamily equal (node l' r') (d' ++ e')
-unfolding plain copying equal counts_of
-kept place.Entry place.Entry l' r' [] e d' e' away fits_first fits_second inside moves = cc
-kept place.Entry place.Entry l' r' (x ∷ d) [] d' e' away fits_first fits_second inside moves = cc
-kept place.Entry place.Entry l' r' (x ∷ []) (y ∷ []) d' e' away fits_first fits_second inside moves = stays_equal x y l' r' d' e' inside
+kept : AreKept plain copying 1 (IsInFamily no_condition equal)
+unfolding plain copying equal table
+kept place.Entry place.Entry l' r' [] e d' e' away fits_first fits_second said moves = cc
+kept place.Entry place.Entry l' r' (x ∷ d) [] d' e' away fits_first fits_second said moves = cc
+kept place.Entry place.Entry l' r' (x ∷ []) (y ∷ []) d' e' away fits_first fits_second said moves = stays_equal x y l' r' d' e' said.inside
     (plain_goes_out x (l', d') (take_one plain (x ∷ []) d' l' moves.first)) (copying_goes_out y (r', e') (take_one copying (y ∷ []) e' r' moves.second))
-kept place.Entry place.Entry l' r' (x ∷ v ∷ d) (y ∷ e) d' e' away fits_first fits_second inside moves = absurd (omega (arith, fits_first))
-kept place.Entry place.Entry l' r' (x ∷ []) (y ∷ v ∷ e) d' e' away fits_first fits_second inside moves = absurd (omega (arith, fits_second))
-kept place.Entry (place.Mark k) l' r' d e d' e' away fits_first fits_second inside moves = absurd inside
-kept place.Entry place.Exit l' r' d e d' e' away fits_first fits_second inside moves = absurd inside
-kept (place.Mark j) r l' r' d e d' e' away fits_first fits_second inside moves = absurd inside
-kept place.Exit place.Entry l' r' d e d' e' away fits_first fits_second inside moves = absurd inside
-kept place.Exit (place.Mark k) l' r' d e d' e' away fits_first fits_second inside moves = absurd inside
-kept place.Exit place.Exit l' r' d e d' e' away fits_first fits_second inside moves = absurd (away refl)
+kept place.Entry place.Entry l' r' (x ∷ v ∷ d) (y ∷ e) d' e' away fits_first fits_second said moves = absurd (omega (arith, fits_first))
+kept place.Entry place.Entry l' r' (x ∷ []) (y ∷ v ∷ e) d' e' away fits_first fits_second said moves = absurd (omega (arith, fits_second))
+kept place.Entry (place.Mark k) l' r' d e d' e' away fits_first fits_second said moves = absurd said.inside
+kept place.Entry place.Exit l' r' d e d' e' away fits_first fits_second said moves = absurd said.inside
+kept (place.Mark j) r l' r' d e d' e' away fits_first fits_second said moves = absurd said.inside
+kept place.Exit place.Entry l' r' d e d' e' away fits_first fits_second said moves = absurd said.inside
+kept place.Exit (place.Mark k) l' r' d e d' e' away fits_first fits_second said moves = absurd said.inside
+kept place.Exit place.Exit l' r' d e d' e' away fits_first fits_second said moves = absurd (away refl)
 
-couples : IsCoupling plain copying 1 equal
+couples : IsCoupling plain copying no_condition 1 equal
 unfolding plain copying equal
 couples = record { at_entries = refl; kept = kept; at_exits = inl (0, omega arith, refl) }

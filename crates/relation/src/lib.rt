@@ -1,10 +1,13 @@
-//! What it means that a family couples two functions, and why a coupling shows that they never return differently.
+//! What it means that a family couples two functions, and why a coupling shows that they never
+//! return differently.
 //!
-//! A coupling holds at the entries, is kept by every move of an alignment, and forces equal results at the exits
-//! (`specs/Coupling.antt`). Two runs that return are lists of segments, and at every node but the two exits some side has a
-//! segment to take. So the runs are followed to the exits, where the coupling speaks of both results.
+//! A coupling holds at the entries of all inputs that meet a condition, is kept by every move of
+//! an alignment, and forces equal results at the exits (`specs/Coupling.antt`). Two runs that
+//! return are lists of segments, and at every node but the two exits some side has a segment to
+//! take. So the runs are followed to the exits, whatever is said and kept on the way
+//! (`specs/Invariants.antt`), where the coupling speaks of both results.
 #![tactic(auto)]
 
-mod laws;
+mod law;
 
-pub use laws::{law_of_couplings, law_of_segments};
+pub use law::{law_of_couplings, law_of_invariants};

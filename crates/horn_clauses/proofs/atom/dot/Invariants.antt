@@ -6,5 +6,5 @@ use Rattle.horn_clauses.proofs.atom.dot.Given as goal
 abbrev pub invariant-loop-i : goal.invariant-loop-i
 invariant-loop-i l = record {
   so_far : l.sum +ℤ dot (drop l.i l.coefs) (drop l.i l.values) ≡ dot l.coefs l.values;
-  narrow : unsigned_abs l.sum ≤ l.i * 2 ^ 101;
+  below : unsigned_abs l.sum ≤ l.i * 2 ^ 101;
 }

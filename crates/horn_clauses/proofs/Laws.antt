@@ -1,0 +1,3 @@
+-- The public laws (src/law.rt), each clause with its proof: what the proofs of other crates may cite.
+pub use Rattle.horn_clauses.proofs.Nodes.{law_of_nodes}
+pub use Rattle.horn_clauses.proofs.Values.{parameters_are_equal, results_are_equal}

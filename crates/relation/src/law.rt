@@ -1,0 +1,16 @@
+//! Laws of the definitions alone. Each is the contract of a call that does nothing.
+ghost use Rattle.relation.specs.Invariants.{LawOfInvariants};
+ghost use Rattle.relation.specs.Coupling.{LawOfCouplings, CouplesUnderEach};
+
+/// What is said at the entries, kept by the moves of both functions, and forces equal results at
+/// the exits, shows that no inputs that meet the condition make the two return differently.
+pub fn law_of_invariants()
+    ensures { LawOfInvariants }
+{}
+
+/// Where a family is a coupling of two functions, no inputs that meet the condition make the two
+/// return differently. A coupling of all inputs is one under each condition.
+pub fn law_of_couplings()
+    ensures couplings { LawOfCouplings }
+    ensures each { CouplesUnderEach }
+{}
