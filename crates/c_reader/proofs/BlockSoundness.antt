@@ -5,12 +5,12 @@ use Rattle.c_ast.specs.RawTree.{RawExpression, RawCondition}
 use Rattle.c_ast.specs.RawView.{raw_joined, raw_one, raw_optional, raw_branches}
 use Rattle.c_tokens.specs.declared.kind.Kind.TheVariants as k
 use Rattle.c_tokens.specs.declared.token.Token.{Token}
-use Rattle.c_reader.specs.declared.sign.Sign.TheVariants as sign
+use Rattle.c_tokens.specs.declared.fixed.Fixed.TheVariants as fixed
 use Rattle.c_reader.specs.ReadExpressions.{◌>>=◌}
 use Rattle.c_reader.specs.Declarations.{Statement, SpellsOptional}
 use Rattle.c_reader.specs.Statements.{SpellsStatement, SpellsEntries, SpellsSimple, SpellsStart, SpellsCondition, ends_open}
 use Rattle.c_reader.specs.Depth.{condition_depth, statements_depth}
-use Rattle.c_reader.specs.Signs.{behind_sign, begins}
+use Rattle.c_reader.specs.Fronts.{behind_sign, begins}
 use Rattle.c_reader.specs.ReadDeclarations.{Reads, shallow_at, begins_type, declaration_at, optional, unless}
 use Rattle.c_reader.specs.ReadStatements.{simple_at, condition_at, start_at, if_at, while_at, do_at, head_at, for_at, ended, entry_at, entries_by, entries_within, entries_at}
 use Rattle.c_reader.proofs.Reading.{stepped, behind_sign-found, begins-here, begins-none, SignFirst, given, append_parts, cons_parts}
@@ -27,7 +27,7 @@ pub record StatementFirst (room : ℕ) (tokens : List Token) (s : Statement) (af
   pub parts : tokens ≡ front ++ after
   pub spells : SpellsStatement s front
   pub within : statements_depth (s tree.Nil) ≤ room
-  pub closed : ends_open (s tree.Nil) ≡ true → begins sign.Else after ≡ false
+  pub closed : ends_open (s tree.Nil) ≡ true → begins fixed.Else after ≡ false
 
 -- What the reader of statements reads stands there so.
 abbrev pub AreStatements : ℕ → (List Token → Reads Statement) → Type 0
@@ -41,13 +41,13 @@ pub while_at-sound : (room : ℕ) (inside : List Token → Reads Statement) (wor
     → while_at room inside tokens ≡ Some read → StatementFirst (suc room) (word ∷ tokens) read.0 read.1
 unfolding while_at
 while_at-sound room inside word tokens read sound is found =
-    let head = stepped (behind_sign sign.OpenRound tokens) _ read found in
+    let head = stepped (behind_sign fixed.OpenRound tokens) _ read found in
     let cond = stepped (condition_at room head.0) _ read head.2 in
-    let last = stepped (behind_sign sign.CloseRound cond.0.1) _ read cond.2 in
+    let last = stepped (behind_sign fixed.CloseRound cond.0.1) _ read cond.2 in
     let body = stepped (inside last.0) _ read last.2 in
-    let opening = behind_sign-found sign.OpenRound tokens head.0 head.1 in
+    let opening = behind_sign-found fixed.OpenRound tokens head.0 head.1 in
     let cond_first = condition_at-sound room head.0 cond.0 cond.1 in
-    let closing = behind_sign-found sign.CloseRound cond.0.1 last.0 last.1 in
+    let closing = behind_sign-found fixed.CloseRound cond.0.1 last.0 last.1 in
     let body_first = sound last.0 body.0 body.1 in
     subst (λ r. StatementFirst (suc room) (word ∷ tokens) r.0 r.1) {x = (
       tree.While cond.0.0
@@ -70,11 +70,11 @@ while_at-sound room inside word tokens read sound is found =
 
 -- what a `;` ends
 pub ended-found : {X : Type 0} (x : X) (tokens : List Token) (read : X × List Token) → ended x tokens ≡ Some read
-    → SignFirst sign.Semicolon tokens read.1 × (x ≡ read.0)
+    → SignFirst fixed.Semicolon tokens read.1 × (x ≡ read.0)
 ended-found x tokens read found =
-    let after = stepped (behind_sign sign.Semicolon tokens) _ read found in
+    let after = stepped (behind_sign fixed.Semicolon tokens) _ read found in
     let same = given after.2 in (
-      subst (λ r. SignFirst sign.Semicolon tokens r.1) same (behind_sign-found sign.Semicolon tokens after.0 after.1),
+      subst (λ r. SignFirst fixed.Semicolon tokens r.1) same (behind_sign-found fixed.Semicolon tokens after.0 after.1),
       ap (λ r. r.0) same,
     )
 
@@ -84,17 +84,17 @@ pub do_at-sound : (room : ℕ) (inside : List Token → Reads Statement) (word :
 unfolding do_at
 do_at-sound room inside word tokens read sound is found =
     let body = stepped (inside tokens) _ read found in
-    let behind_word = stepped (behind_sign sign.While body.0.1) _ read body.2 in
-    let head = stepped (behind_sign sign.OpenRound behind_word.0) _ read behind_word.2 in
+    let behind_word = stepped (behind_sign fixed.While body.0.1) _ read body.2 in
+    let head = stepped (behind_sign fixed.OpenRound behind_word.0) _ read behind_word.2 in
     let cond = stepped (condition_at room head.0) _ read head.2 in
-    let last = stepped (behind_sign sign.CloseRound cond.0.1) _ read cond.2 in
-    let after = stepped (behind_sign sign.Semicolon last.0) _ read last.2 in
+    let last = stepped (behind_sign fixed.CloseRound cond.0.1) _ read cond.2 in
+    let after = stepped (behind_sign fixed.Semicolon last.0) _ read last.2 in
     let body_first = sound tokens body.0 body.1 in
-    let while_word = behind_sign-found sign.While body.0.1 behind_word.0 behind_word.1 in
-    let opening = behind_sign-found sign.OpenRound behind_word.0 head.0 head.1 in
+    let while_word = behind_sign-found fixed.While body.0.1 behind_word.0 behind_word.1 in
+    let opening = behind_sign-found fixed.OpenRound behind_word.0 head.0 head.1 in
     let cond_first = condition_at-sound room head.0 cond.0 cond.1 in
-    let closing = behind_sign-found sign.CloseRound cond.0.1 last.0 last.1 in
-    let semicolon = behind_sign-found sign.Semicolon last.0 after.0 after.1 in
+    let closing = behind_sign-found fixed.CloseRound cond.0.1 last.0 last.1 in
+    let semicolon = behind_sign-found fixed.Semicolon last.0 after.0 after.1 in
     let tail : List Token = closing.token ∷ semicolon.token ∷ [] in
     subst (λ r. StatementFirst (suc room) (word ∷ tokens) r.0 r.1) {x = (
       tree.Do
@@ -121,16 +121,16 @@ do_at-sound room inside word tokens read sound is found =
 -- ---- branches
 
 closed-by : (s : Statement) (rest others : List Token) (test : Bool) → ends_open (s tree.Nil) ≡ test
-    → (ends_open (s tree.Nil) ≡ true → begins sign.Else rest ≡ false) → SignFirst sign.Else rest others
+    → (ends_open (s tree.Nil) ≡ true → begins fixed.Else rest ≡ false) → SignFirst fixed.Else rest others
     → ends_open (s tree.Nil) ≡ false
 closed-by s rest others true is closed other =
-    absurd (let has : true ≡ false = sym (begins-here sign.Else rest others other) ∙ closed is in cc)
+    absurd (let has : true ≡ false = sym (begins-here fixed.Else rest others other) ∙ closed is in cc)
 closed-by s rest others false is closed other = is
 
 branches-by : (room : ℕ) (inside : List Token → Reads Statement) (word : Token) (tokens head middle last rest : List Token)
     (cond : RawExpression) (s : Statement) (behind : Option (List Token)) (read : Statement × List Token)
-    → AreStatements room inside → word.kind ≡ k.If → SignFirst sign.OpenRound tokens head → ShallowAt room head cond middle
-    → SignFirst sign.CloseRound middle last → StatementFirst room last s rest → behind_sign sign.Else rest ≡ behind
+    → AreStatements room inside → word.kind ≡ k.If → SignFirst fixed.OpenRound tokens head → ShallowAt room head cond middle
+    → SignFirst fixed.CloseRound middle last → StatementFirst room last s rest → behind_sign fixed.Else rest ≡ behind
     → (optional behind rest inside >>= λ second. Some (raw_branches cond (raw_one s) second.0, second.1)) ≡ Some read
     → StatementFirst (suc room) (word ∷ tokens) read.0 read.1
 branches-by room inside word tokens head middle last rest cond s None read sound is opening cond_first closing first
@@ -145,7 +145,7 @@ branches-by room inside word tokens head middle last rest cond s None read sound
       spells = SpellsStatement.if_alone cond s word opening.token closing.token cond_first.at.front first.front is opening.has
           closing.has cond_first.at.spells first.spells;
       within = omega (arith, cond_first.within, first.within);
-      closed = λ is_open. begins-none sign.Else rest other;
+      closed = λ is_open. begins-none fixed.Else rest other;
     })
 branches-by room inside word tokens head middle last rest cond s (Some others) read sound is opening cond_first
     closing first other found =
@@ -153,7 +153,7 @@ branches-by room inside word tokens head middle last rest cond s (Some others) r
     let second = stepped (inside others) _ outer.0 outer.1 in
     let same : (tree.IfElse cond (raw_one s) (raw_one second.0.0), second.0.1) ≡ read =
     ap (λ (r : Option Statement × List Token). (raw_branches cond (raw_one s) r.0, r.1)) (given second.2) ∙ given outer.2 in
-    let else_word = behind_sign-found sign.Else rest others other in
+    let else_word = behind_sign-found fixed.Else rest others other in
     let second_first = sound others second.0 second.1 in
     let back : List Token = first.front ++ else_word.token ∷ second_first.front in
     subst (λ r. StatementFirst (suc room) (word ∷ tokens) r.0 r.1) same (record {
@@ -177,13 +177,13 @@ pub if_at-sound : (room : ℕ) (inside : List Token → Reads Statement) (word :
     → if_at room inside tokens ≡ Some read → StatementFirst (suc room) (word ∷ tokens) read.0 read.1
 unfolding if_at
 if_at-sound room inside word tokens read sound is found =
-    let head = stepped (behind_sign sign.OpenRound tokens) _ read found in
+    let head = stepped (behind_sign fixed.OpenRound tokens) _ read found in
     let cond = stepped (shallow_at room head.0) _ read head.2 in
-    let last = stepped (behind_sign sign.CloseRound cond.0.1) _ read cond.2 in
+    let last = stepped (behind_sign fixed.CloseRound cond.0.1) _ read cond.2 in
     let first = stepped (inside last.0) _ read last.2 in
     branches-by room inside word tokens head.0 cond.0.1 last.0 first.0.1 cond.0.0 first.0.0
-    (behind_sign sign.Else first.0.1) read sound is (behind_sign-found sign.OpenRound tokens head.0 head.1)
-    (shallow-sound room head.0 cond.0 cond.1) (behind_sign-found sign.CloseRound cond.0.1 last.0 last.1)
+    (behind_sign fixed.Else first.0.1) read sound is (behind_sign-found fixed.OpenRound tokens head.0 head.1)
+    (shallow-sound room head.0 cond.0 cond.1) (behind_sign-found fixed.CloseRound cond.0.1 last.0 last.1)
     (sound last.0 first.0 first.1) refl first.2
 
 -- ---- `for`
@@ -226,23 +226,23 @@ head_at-sound : (room : ℕ) (tokens : List Token)
     → head_at room tokens ≡ Some read → HeadFirst room tokens read.0.0 read.0.1 read.0.2 read.1
 unfolding head_at
 head_at-sound room tokens read found =
-    let head = stepped (behind_sign sign.OpenRound tokens) _ read found in
-    let start = stepped (unless (begins sign.Semicolon head.0) head.0 (start_at room)) _ read head.2 in
-    let middle = stepped (behind_sign sign.Semicolon start.0.1) _ read start.2 in
-    let cond = stepped (unless (begins sign.Semicolon middle.0) middle.0 (condition_at room)) _ read middle.2 in
-    let last = stepped (behind_sign sign.Semicolon cond.0.1) _ read cond.2 in
-    let step = stepped (unless (begins sign.CloseRound last.0) last.0 (simple_at room)) _ read last.2 in
-    let body = stepped (behind_sign sign.CloseRound step.0.1) _ read step.2 in
-    let opening = behind_sign-found sign.OpenRound tokens head.0 head.1 in
-    let start_first = unless-sound (SpellsWithin SpellsStart room) sign.Semicolon (start_at room)
+    let head = stepped (behind_sign fixed.OpenRound tokens) _ read found in
+    let start = stepped (unless (begins fixed.Semicolon head.0) head.0 (start_at room)) _ read head.2 in
+    let middle = stepped (behind_sign fixed.Semicolon start.0.1) _ read start.2 in
+    let cond = stepped (unless (begins fixed.Semicolon middle.0) middle.0 (condition_at room)) _ read middle.2 in
+    let last = stepped (behind_sign fixed.Semicolon cond.0.1) _ read cond.2 in
+    let step = stepped (unless (begins fixed.CloseRound last.0) last.0 (simple_at room)) _ read last.2 in
+    let body = stepped (behind_sign fixed.CloseRound step.0.1) _ read step.2 in
+    let opening = behind_sign-found fixed.OpenRound tokens head.0 head.1 in
+    let start_first = unless-sound (SpellsWithin SpellsStart room) fixed.Semicolon (start_at room)
     (start_at-sound room) head.0 start.0 start.1 in
-    let first = behind_sign-found sign.Semicolon start.0.1 middle.0 middle.1 in
-    let cond_first = unless-sound (SpellsShallowCondition room) sign.Semicolon (condition_at room)
+    let first = behind_sign-found fixed.Semicolon start.0.1 middle.0 middle.1 in
+    let cond_first = unless-sound (SpellsShallowCondition room) fixed.Semicolon (condition_at room)
     (condition_at-sound room) middle.0 cond.0 cond.1 in
-    let second = behind_sign-found sign.Semicolon cond.0.1 last.0 last.1 in
-    let step_first = unless-sound (SpellsWithin SpellsSimple room) sign.CloseRound (simple_at room)
+    let second = behind_sign-found fixed.Semicolon cond.0.1 last.0 last.1 in
+    let step_first = unless-sound (SpellsWithin SpellsSimple room) fixed.CloseRound (simple_at room)
     (simple_at-sound room) last.0 step.0 step.1 in
-    let closing = behind_sign-found sign.CloseRound step.0.1 body.0 body.1 in
+    let closing = behind_sign-found fixed.CloseRound step.0.1 body.0 body.1 in
     subst (λ r. HeadFirst room tokens r.0.0 r.0.1 r.0.2 r.1) {x = ((start.0.0, cond.0.0, step.0.0), body.0)}
     (given body.2) (record {
       opening = opening.token;
@@ -388,16 +388,16 @@ entries_within-sound : (room : ℕ) (inside : List Token → Reads Statement) (n
     → entries_within (entry_at room inside) n tokens ≡ Some read → EntriesFirst room tokens read.0 read.1
 entries_within-sound room inside zero tokens read sound found = absurd cc
 entries_within-sound room inside (suc n) tokens read sound found =
-    go (behind_sign sign.CloseCurly tokens) refl found (λ others r is. entries_within-sound room inside n others r sound is)
+    go (behind_sign fixed.CloseCurly tokens) refl found (λ others r is. entries_within-sound room inside n others r sound is)
   where
-    go : (behind : Option (List Token)) → behind_sign sign.CloseCurly tokens ≡ behind
+    go : (behind : Option (List Token)) → behind_sign fixed.CloseCurly tokens ≡ behind
         → entries_by behind (entry_at room inside tokens >>= λ x. entries_within (entry_at room inside) n x.1 >>= λ y.
         Some (x.0 ∷ y.0, y.1)) ≡ Some read
         → ((others : List Token) (r : List Statement × List Token) → entries_within
         (entry_at room inside) n others ≡ Some r → EntriesFirst room others r.0 r.1)
         → EntriesFirst room tokens read.0 read.1
     go (Some others) is same more =
-        let closing = behind_sign-found sign.CloseCurly tokens others is in
+        let closing = behind_sign-found fixed.CloseCurly tokens others is in
         subst (λ r. EntriesFirst room tokens r.0 r.1) (given same) (record {
           front = [];
           closing = closing.token;

@@ -4,7 +4,7 @@ use Rattle.c_ast.specs.RawTree.{RawExpression, Bin}
 use Rattle.c_ast.specs.declared.expr.BinOp.{BinOp}
 use Rattle.c_tokens.specs.declared.token.Token.{Token}
 use Rattle.c_reader.specs.ReadExpressions.{Reading, level_by, whole_by, operand_within, further_within, choice_within}
-use Rattle.c_reader.specs.declared.sign.Sign.TheVariants as sign
+use Rattle.c_tokens.specs.declared.fixed.Fixed.TheVariants as fixed
 use Rattle.c_reader.proofs.Reading.{SignFirst-short}
 use Rattle.c_reader.proofs.Parts.{IsNext, OperandIs, OperandIs-from_operand, named, constant, bracketed, signed, JoinedIs, JoinedIs-from_joined, ChosenIs, ChosenIs-from_chosen, ends, goes_on, LevelIs-from_level, WholeIs-from_whole}
 
@@ -54,7 +54,7 @@ operand-short : (n : ℕ) → IsShort n → (token : Token) (others : List Token
 operand-short n short token others e last (named name is) = omega arith
 operand-short n short token others e last (constant value is below) = omega arith
 operand-short n short token others e last (bracketed _ after _ is inside passes) =
-    omega (arith, whole-short n short others e after inside, SignFirst-short sign.CloseRound after last passes)
+    omega (arith, whole-short n short others e after inside, SignFirst-short fixed.CloseRound after last passes)
 operand-short n short token others e last (signed op f _ is operand) =
     omega (arith, short.operand others f last operand)
 
@@ -77,9 +77,9 @@ choice-short n short cond tokens e last (ends same all none) = omega (arith, ap 
 choice-short n short cond tokens e last (goes_on others after further f g question first colon second same) =
     omega (
       arith,
-      SignFirst-short sign.Question tokens others question,
+      SignFirst-short fixed.Question tokens others question,
       whole-short n short others f after first,
-      SignFirst-short sign.Colon after further colon,
+      SignFirst-short fixed.Colon after further colon,
       whole-short n short further g last second,
     )
 

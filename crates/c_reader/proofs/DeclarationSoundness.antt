@@ -6,12 +6,13 @@ use Rattle.c_ast.specs.RawTree.{RawExpression, RawDeclared}
 use Rattle.c_tokens.specs.declared.kind.Kind.{Kind}
 use Rattle.c_tokens.specs.declared.kind.Kind.TheVariants as k
 use Rattle.c_tokens.specs.declared.token.Token.{Token}
-use Rattle.c_reader.specs.declared.sign.Sign.{Sign}
-use Rattle.c_reader.specs.declared.sign.Sign.TheVariants as sign
+use Rattle.c_tokens.specs.declared.fixed.Fixed.{Fixed}
+use Rattle.c_tokens.specs.declared.fixed.Fixed.TheVariants as fixed
 use Rattle.c_reader.specs.Expressions.{SpellsExpression, expression_depth}
 use Rattle.c_reader.specs.Declarations as spelled
 use Rattle.c_reader.specs.Declarations.{Statement, SpellsType, SpellsName, SpellsListed, SpellsOptional}
-use Rattle.c_reader.specs.Signs.{is_sign, behind_sign, begins, skipped}
+use Rattle.c_tokens.specs.Fixed.{is_kind_of}
+use Rattle.c_reader.specs.Fronts.{behind_sign, begins, skipped}
 use Rattle.c_reader.specs.ReadDeclarations.{Reads, name_by, name_at, behind_type, shallow_at, declarator_at, declaration_at, parameter_at, parameters_by, parameters_at, optional, unless, listed_by, listed_within, listed_at}
 use Rattle.c_reader.proofs.Reading.{stepped, behind_sign-found, SignFirst, HasSign, HasSign-from_test, Front, IsSound, given, in_front, append_parts}
 use Rattle.c_reader.proofs.Shallow.{shallow-sound}
@@ -36,18 +37,18 @@ pub record TypeFirst (tokens after : List Token) : Type 0 where
   pub parts : tokens ≡ front ++ after
   pub spells : SpellsType front
 
-skip-by : (s : Sign) (first : Token) (others : List Token) (test : Bool) → is_sign s first.kind ≡ test
+skip-by : (s : Fixed) (first : Token) (others : List Token) (test : Bool) → is_kind_of s first.kind ≡ test
     → SignFirst s (first ∷ others) (skipped s (first ∷ others)) ⊎ (skipped s (first ∷ others) ≡ first ∷ others)
 skip-by s first others true is =
     inl (record { token = first; parts = ap (λ l. first ∷ l) (rw is refl); has = HasSign-from_test s first.kind is })
 skip-by s first others false is = inr (rw is refl)
 
-skip : (s : Sign) (tokens : List Token) → SignFirst s tokens (skipped s tokens) ⊎ (skipped s tokens ≡ tokens)
+skip : (s : Fixed) (tokens : List Token) → SignFirst s tokens (skipped s tokens) ⊎ (skipped s tokens ≡ tokens)
 skip s [] = inr refl
-skip s (first ∷ others) = skip-by s first others (is_sign s first.kind) refl
+skip s (first ∷ others) = skip-by s first others (is_kind_of s first.kind) refl
 
 int-skipped : (first second : Token) (tokens after : List Token) → first.kind ≡ k.Long → second.kind ≡ k.Long
-    → SignFirst sign.Int tokens after ⊎ (after ≡ tokens) → TypeFirst (first ∷ second ∷ tokens) after
+    → SignFirst fixed.Int tokens after ⊎ (after ≡ tokens) → TypeFirst (first ∷ second ∷ tokens) after
 int-skipped first second tokens after long again (inl third) = record {
   front = first ∷ second ∷ third.token ∷ [];
   parts = ap (λ (l : List Token). first ∷ second ∷ l) third.parts;
@@ -60,7 +61,7 @@ int-skipped first second tokens after long again (inr same) = record {
 }
 
 int-behind : (first : Token) (tokens after : List Token) → first.kind ≡ k.Long
-    → SignFirst sign.Int tokens after ⊎ (after ≡ tokens) → TypeFirst (first ∷ tokens) after
+    → SignFirst fixed.Int tokens after ⊎ (after ≡ tokens) → TypeFirst (first ∷ tokens) after
 int-behind first tokens after long (inl second) = record {
   front = first ∷ second.token ∷ [];
   parts = ap (λ (l : List Token). first ∷ l) second.parts;
@@ -73,35 +74,35 @@ int-behind first tokens after long (inr same) = record {
 }
 
 long-behind : (first : Token) (tokens : List Token) → first.kind ≡ k.Long
-    → SignFirst sign.Long tokens (skipped sign.Long tokens) ⊎ (skipped sign.Long tokens ≡ tokens)
-    → TypeFirst (first ∷ tokens) (skipped sign.Int (skipped sign.Long tokens))
+    → SignFirst fixed.Long tokens (skipped fixed.Long tokens) ⊎ (skipped fixed.Long tokens ≡ tokens)
+    → TypeFirst (first ∷ tokens) (skipped fixed.Int (skipped fixed.Long tokens))
 long-behind first tokens long (inl second) =
-    subst (λ (l : List Token). TypeFirst (first ∷ l) (skipped sign.Int (skipped sign.Long tokens))) (sym second.parts)
-    (int-skipped first second.token (skipped sign.Long tokens) (skipped sign.Int (skipped sign.Long tokens)) long
-    second.has (skip sign.Int (skipped sign.Long tokens)))
+    subst (λ (l : List Token). TypeFirst (first ∷ l) (skipped fixed.Int (skipped fixed.Long tokens))) (sym second.parts)
+    (int-skipped first second.token (skipped fixed.Long tokens) (skipped fixed.Int (skipped fixed.Long tokens)) long
+    second.has (skip fixed.Int (skipped fixed.Long tokens)))
 long-behind first tokens long (inr same) =
-    subst (λ (l : List Token). TypeFirst (first ∷ tokens) (skipped sign.Int l)) (sym same)
-    (int-behind first tokens (skipped sign.Int tokens) long (skip sign.Int tokens))
+    subst (λ (l : List Token). TypeFirst (first ∷ tokens) (skipped fixed.Int l)) (sym same)
+    (int-behind first tokens (skipped fixed.Int tokens) long (skip fixed.Int tokens))
 
-typed-by : (tokens after : List Token) (test : Bool) → begins sign.Int tokens ≡ test → behind_type tokens ≡ Some after
+typed-by : (tokens after : List Token) (test : Bool) → begins fixed.Int tokens ≡ test → behind_type tokens ≡ Some after
     → TypeFirst tokens after
 unfolding behind_type
 typed-by tokens after true int found =
-    let first = behind_sign-found sign.Int tokens after (rw int at found) in
+    let first = behind_sign-found fixed.Int tokens after (rw int at found) in
     record { front = first.token ∷ []; parts = first.parts; spells = spelled.SpellsType.int first.token first.has }
 typed-by tokens after false int found =
-    let long = stepped (behind_sign sign.Long tokens) _ _ (rw int at found) in
-    let first = behind_sign-found sign.Long tokens long.0 long.1 in
+    let long = stepped (behind_sign fixed.Long tokens) _ _ (rw int at found) in
+    let first = behind_sign-found fixed.Long tokens long.0 long.1 in
     subst (λ (l : List Token). TypeFirst l after) (sym first.parts)
     (subst (λ (l : List Token). TypeFirst (first.token ∷ long.0) l) (given long.2)
-    (long-behind first.token long.0 first.has (skip sign.Long long.0)))
+    (long-behind first.token long.0 first.has (skip fixed.Long long.0)))
 
 pub behind_type-sound : (tokens after : List Token) → behind_type tokens ≡ Some after → TypeFirst tokens after
-behind_type-sound tokens after found = typed-by tokens after (begins sign.Int tokens) refl found
+behind_type-sound tokens after found = typed-by tokens after (begins fixed.Int tokens) refl found
 
 -- ---- lists and parts that may be left out
 
-optional-by : {X : Type 0} (Spells Whole : X → List Token → Type 0) (s : Sign) (item : List Token → Reads X)
+optional-by : {X : Type 0} (Spells Whole : X → List Token → Type 0) (s : Fixed) (item : List Token → Reads X)
     (tokens : List Token) (behind : Option (List Token)) (read : Option X × List Token) → IsSound Spells item
     → ((x : X) (token : Token) (us : List Token) → HasSign s token.kind → Spells x us → Whole x (token ∷ us))
     → behind_sign s tokens ≡ behind → optional behind tokens item ≡ Some read
@@ -118,7 +119,7 @@ optional-by Spells Whole s item tokens (Some others) read sound make is found =
     (λ token us has spells. spelled.SpellsOptional.something x.0.0 (token ∷ us) (make x.0.0 token us has spells)))
 
 -- what stands behind a sign, if the sign stands there
-pub optional-sound : {X : Type 0} (Spells Whole : X → List Token → Type 0) (s : Sign) (item : List Token → Reads X)
+pub optional-sound : {X : Type 0} (Spells Whole : X → List Token → Type 0) (s : Fixed) (item : List Token → Reads X)
     → IsSound Spells item
     → ((x : X) (token : Token) (us : List Token) → HasSign s token.kind → Spells x us → Whole x (token ∷ us))
     → IsSound (SpellsOptional Whole) (λ tokens. optional (behind_sign s tokens) tokens item)
@@ -138,21 +139,21 @@ unless-by Spells item tokens false read sound found =
     (record { front = at.front; parts = at.parts; spells = spelled.SpellsOptional.something x.0.0 at.front at.spells })
 
 -- what stands first, unless a sign does
-pub unless-sound : {X : Type 0} (Spells : X → List Token → Type 0) (s : Sign) (item : List Token → Reads X)
+pub unless-sound : {X : Type 0} (Spells : X → List Token → Type 0) (s : Fixed) (item : List Token → Reads X)
     → IsSound Spells item → IsSound (SpellsOptional Spells) (λ tokens. unless (begins s tokens) tokens item)
 unless-sound Spells s item sound tokens read found =
     unless-by Spells item tokens (begins s tokens) read sound found
 
 listed-by : {X : Type 0} (Spells : X → List Token → Type 0) (tokens others : List Token) (x : X)
     (behind : Option (List Token)) (more : List Token → Reads (List X)) (read : List X × List Token)
-    → Front Spells tokens x others → IsSound (SpellsListed Spells) more → behind_sign sign.Comma others ≡ behind
+    → Front Spells tokens x others → IsSound (SpellsListed Spells) more → behind_sign fixed.Comma others ≡ behind
     → listed_by x others behind more ≡ Some read → Front (SpellsListed Spells) tokens read.0 read.1
 listed-by Spells tokens others x None more read at sound is found =
     subst (λ r. Front (SpellsListed Spells) tokens r.0 r.1) (given found)
     (record { front = at.front; parts = at.parts; spells = spelled.SpellsListed.last x at.front at.spells })
 listed-by Spells tokens others x (Some behind_comma) more read at sound is found =
     let xs = stepped (more behind_comma) _ read found in
-    let comma = behind_sign-found sign.Comma others behind_comma is in
+    let comma = behind_sign-found fixed.Comma others behind_comma is in
     let on = sound behind_comma xs.0 xs.1 in
     subst (λ r. Front (SpellsListed Spells) tokens r.0 r.1) (given xs.2)
     (record {
@@ -167,7 +168,7 @@ listed_within-sound : {X : Type 0} (Spells : X → List Token → Type 0) (item 
 listed_within-sound Spells item zero sound tokens read found = absurd cc
 listed_within-sound Spells item (suc n) sound tokens read found =
     let x = stepped (item tokens) _ read found in
-    listed-by Spells tokens x.0.1 x.0.0 (behind_sign sign.Comma x.0.1) (listed_within item n) read
+    listed-by Spells tokens x.0.1 x.0.0 (behind_sign fixed.Comma x.0.1) (listed_within item n) read
     (sound tokens x.0 x.1) (listed_within-sound Spells item n sound) refl x.2
 
 pub listed_at-sound : {X : Type 0} (Spells : X → List Token → Type 0) (item : List Token → Reads X)
@@ -207,9 +208,9 @@ pub declarator_at-sound : (room : ℕ) → IsSound (SpellsShallowDeclarator room
 unfolding declarator_at
 declarator_at-sound room tokens read found =
     let x = stepped (name_at tokens) _ read found in
-    let y = stepped (optional (behind_sign sign.Assign x.0.1) x.0.1 (shallow_at room)) _ read x.2 in
+    let y = stepped (optional (behind_sign fixed.Assign x.0.1) x.0.1 (shallow_at room)) _ read x.2 in
     let name = name_at-sound tokens x.0 x.1 in
-    let value = optional-sound (SpellsShallow room) (SpellsShallowInitialiser room) sign.Assign (shallow_at room)
+    let value = optional-sound (SpellsShallow room) (SpellsShallowInitialiser room) fixed.Assign (shallow_at room)
     (shallow_at-sound room)
     (λ e token us has spells. (spelled.SpellsInitialiser.initialiser e token us has spells.0, spells.1)) x.0.1 y.0 y.1 in
     let both = initialiser-split room y.0.0 value.front value.spells in
@@ -273,8 +274,8 @@ pub record ParametersFirst (tokens : List Token) (vars : List Var) (after : List
   pub has : closing.kind ≡ k.CloseRound
   pub spells : spelled.SpellsParameters vars front
 
-no-parameters : (tokens after : List Token) → SignFirst sign.CloseRound (skipped sign.Void tokens) after
-    → SignFirst sign.Void tokens (skipped sign.Void tokens) ⊎ (skipped sign.Void tokens ≡ tokens)
+no-parameters : (tokens after : List Token) → SignFirst fixed.CloseRound (skipped fixed.Void tokens) after
+    → SignFirst fixed.Void tokens (skipped fixed.Void tokens) ⊎ (skipped fixed.Void tokens ≡ tokens)
     → ParametersFirst tokens [] after
 no-parameters tokens after closing (inl word) = record {
   front = word.token ∷ [];
@@ -292,12 +293,12 @@ no-parameters tokens after closing (inr same) = record {
 }
 
 parameters-by : (tokens : List Token) (behind : Option (List Token)) (read : List Var × List Token)
-    → behind_sign sign.CloseRound (skipped sign.Void tokens) ≡ behind → parameters_by behind tokens ≡ Some read
+    → behind_sign fixed.CloseRound (skipped fixed.Void tokens) ≡ behind → parameters_by behind tokens ≡ Some read
     → ParametersFirst tokens read.0 read.1
 parameters-by tokens None read is found =
     let x = stepped (listed_at parameter_at tokens) _ read found in
-    let others = stepped (behind_sign sign.CloseRound x.0.1) _ read x.2 in
-    let closing = behind_sign-found sign.CloseRound x.0.1 others.0 others.1 in
+    let others = stepped (behind_sign fixed.CloseRound x.0.1) _ read x.2 in
+    let closing = behind_sign-found fixed.CloseRound x.0.1 others.0 others.1 in
     let listed = listed_at-sound spelled.SpellsParameter parameter_at parameter_at-sound tokens x.0 x.1 in
     subst (λ r. ParametersFirst tokens r.0 r.1) (given others.2) (record {
       front = listed.front;
@@ -308,11 +309,11 @@ parameters-by tokens None read is found =
     })
 parameters-by tokens (Some others) read is found =
     subst (λ r. ParametersFirst tokens r.0 r.1) (given found)
-    (no-parameters tokens others (behind_sign-found sign.CloseRound (skipped sign.Void tokens) others is)
-    (skip sign.Void tokens))
+    (no-parameters tokens others (behind_sign-found fixed.CloseRound (skipped fixed.Void tokens) others is)
+    (skip fixed.Void tokens))
 
 pub parameters_at-sound : (tokens : List Token) (read : List Var × List Token) → parameters_at tokens ≡ Some read
     → ParametersFirst tokens read.0 read.1
 unfolding parameters_at
 parameters_at-sound tokens read found =
-    parameters-by tokens (behind_sign sign.CloseRound (skipped sign.Void tokens)) read refl found
+    parameters-by tokens (behind_sign fixed.CloseRound (skipped fixed.Void tokens)) read refl found

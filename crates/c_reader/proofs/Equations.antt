@@ -4,8 +4,8 @@ use Rattle.c_ast.specs.RawTree.{RawExpression, Bin, Cond}
 use Rattle.c_ast.specs.declared.expr.BinOp.{BinOp}
 use Rattle.c_tokens.specs.declared.token.Token.{Token}
 use Rattle.c_reader.specs.ReadExpressions.{Reader, Further, NextOperator, ◌>>=◌, Reading, next_operator, operand_by, joined_by, chosen_by, level_by, operand_within, further_within, choice_within, operand_at, further_at, level_at, choice_at, expression_at}
-use Rattle.c_reader.specs.declared.sign.Sign.TheVariants as sign
-use Rattle.c_reader.specs.Signs.{behind_sign}
+use Rattle.c_tokens.specs.declared.fixed.Fixed.TheVariants as fixed
+use Rattle.c_reader.specs.Fronts.{behind_sign}
 use Rattle.c_reader.proofs.Reading.{behind_sign-found, SignFirst-short}
 use Rattle.c_reader.proofs.Parts.{step-same, IsNext-from_next}
 use Rattle.c_reader.proofs.Bounds.{level_within, whole_within, IsShort-all, level-short, whole-short, IsNext-short}
@@ -53,15 +53,15 @@ joined-same left tokens (Some (at, op, line, others)) right right' further furth
 chosen-same : (cond : RawExpression) (tokens : List Token) (first : Option (List Token)) (value value' : Reader)
     → ((others : List Token) → first ≡ Some others
     → (value others ≡ value' others) × ((x : RawExpression × List Token) (after : List Token) → value others ≡ Some x
-    → behind_sign sign.Colon x.1 ≡ Some after → value after ≡ value' after))
+    → behind_sign fixed.Colon x.1 ≡ Some after → value after ≡ value' after))
     → chosen_by cond tokens first value ≡ chosen_by cond tokens first value'
 chosen-same cond tokens None value value' same = refl
 chosen-same cond tokens (Some others) value value' same =
     let both = same others refl in
     step-same (value others) (value' others)
-    (λ x. behind_sign sign.Colon x.1 >>= λ after. value after >>= λ y. Some (Cond cond x.0 y.0, y.1))
-    (λ x. behind_sign sign.Colon x.1 >>= λ after. value' after >>= λ y. Some (Cond cond x.0 y.0, y.1)) both.0
-    (λ x found. step-same (behind_sign sign.Colon x.1) (behind_sign sign.Colon x.1)
+    (λ x. behind_sign fixed.Colon x.1 >>= λ after. value after >>= λ y. Some (Cond cond x.0 y.0, y.1))
+    (λ x. behind_sign fixed.Colon x.1 >>= λ after. value' after >>= λ y. Some (Cond cond x.0 y.0, y.1)) both.0
+    (λ x found. step-same (behind_sign fixed.Colon x.1) (behind_sign fixed.Colon x.1)
     (λ after. value after >>= λ y. Some (Cond cond x.0 y.0, y.1))
     (λ after. value' after >>= λ y. Some (Cond cond x.0 y.0, y.1)) refl
     (λ after colon. ap (λ (reading : Reading). reading >>= λ y. Some (Cond cond x.0 y.0, y.1)) (both.1 x after found colon)))
@@ -82,14 +82,14 @@ further-same n m same level left tokens most most' =
 
 choice-same : (n m : ℕ) → AreSame n m → (cond : RawExpression) (tokens : List Token) → length tokens < suc n
     → length tokens < suc m
-    → chosen_by cond tokens (behind_sign sign.Question tokens) (whole_within n)
-    ≡ chosen_by cond tokens (behind_sign sign.Question tokens) (whole_within m)
+    → chosen_by cond tokens (behind_sign fixed.Question tokens) (whole_within n)
+    ≡ chosen_by cond tokens (behind_sign fixed.Question tokens) (whole_within m)
 choice-same n m same cond tokens most most' =
-    chosen-same cond tokens (behind_sign sign.Question tokens) (whole_within n) (whole_within m) (λ others is.
-    let short = SignFirst-short sign.Question tokens others (behind_sign-found sign.Question tokens others is) in (
+    chosen-same cond tokens (behind_sign fixed.Question tokens) (whole_within n) (whole_within m) (λ others is.
+    let short = SignFirst-short fixed.Question tokens others (behind_sign-found fixed.Question tokens others is) in (
       whole-same n m same others (omega (arith, short)) (omega (arith, short)),
       λ x after found colon.
-          let shorter = SignFirst-short sign.Colon x.1 after (behind_sign-found sign.Colon x.1 after colon) in
+          let shorter = SignFirst-short fixed.Colon x.1 after (behind_sign-found fixed.Colon x.1 after colon) in
           whole-same n m same after (omega (arith, short, shorter, whole-short n (IsShort-all n) others x.0 x.1 found))
           (omega (arith, short, shorter, whole-short n (IsShort-all n) others x.0 x.1 found)),
     ))
@@ -186,14 +186,14 @@ further_at-is level left tokens =
 
 -- what goes on from a condition
 pub choice_at-is : (cond : RawExpression) (tokens : List Token)
-    → choice_at cond tokens ≡ chosen_by cond tokens (behind_sign sign.Question tokens) expression_at
+    → choice_at cond tokens ≡ chosen_by cond tokens (behind_sign fixed.Question tokens) expression_at
 unfolding choice_at operand_within
 choice_at-is cond tokens =
-    chosen-same cond tokens (behind_sign sign.Question tokens) (whole_within (length tokens)) expression_at (λ others is.
-    let short = SignFirst-short sign.Question tokens others (behind_sign-found sign.Question tokens others is) in (
+    chosen-same cond tokens (behind_sign fixed.Question tokens) (whole_within (length tokens)) expression_at (λ others is.
+    let short = SignFirst-short fixed.Question tokens others (behind_sign-found fixed.Question tokens others is) in (
       whole_within-at (length tokens) others (omega (arith, short)),
       λ x after found colon.
-          let shorter = SignFirst-short sign.Colon x.1 after (behind_sign-found sign.Colon x.1 after colon) in
+          let shorter = SignFirst-short fixed.Colon x.1 after (behind_sign-found fixed.Colon x.1 after colon) in
           whole_within-at (length tokens) after
           (omega (arith, short, shorter, whole-short (length tokens) (IsShort-all (length tokens)) others x.0 x.1 found)),
     ))

@@ -10,8 +10,9 @@ use Rattle.c_tokens.specs.declared.kind.Kind.TheVariants as k
 use Rattle.c_tokens.specs.declared.token.Token.{Token}
 use Rattle.c_reader.specs.Expressions.{unary_of, operator_of, SpellsAt, named, constant, bracketed, signed, joined, chosen, alone, EndsExpression, SpellsExpression}
 use Rattle.c_reader.specs.ReadExpressions.{◌>>=◌, Reading, next_operator, operand_at, further_at, level_at, choice_at, expression_at}
-use Rattle.c_reader.specs.declared.sign.Sign.TheVariants as sign
-use Rattle.c_reader.specs.Signs.{is_sign, behind_sign}
+use Rattle.c_tokens.specs.declared.fixed.Fixed.TheVariants as fixed
+use Rattle.c_tokens.specs.Fixed.{is_kind_of}
+use Rattle.c_reader.specs.Fronts.{behind_sign}
 use Rattle.c_reader.proofs.Parts.{Stops, under_sign}
 use Rattle.c_reader.proofs.ExpressionSoundness.{operator-level}
 use Rattle.c_reader.proofs.Readings.{operand_at-name, operand_at-constant, operand_at-bracket, closed, operand_at-sign, level_at-operand, operation_from, further_at-next, further_at-none, expression_at-level, choice_to, choice_from, choice_at-asked, choice_at-none}
@@ -43,11 +44,11 @@ Stops-from_ends : (tokens : List Token) → EndsExpression tokens → Stops 1 to
 Stops-from_ends [] ends = tt
 Stops-from_ends (first ∷ others) ends = λ at op is. absurd cc
 
-no_question : (tokens : List Token) → EndsExpression tokens → behind_sign sign.Question tokens ≡ None
+no_question : (tokens : List Token) → EndsExpression tokens → behind_sign fixed.Question tokens ≡ None
 no_question [] ends = refl
 no_question (first ∷ others) ends = by_kind first.kind ends.1
   where
-    by_kind : (kind : Kind) → (kind ≡ k.Question → ⊥) → (if is_sign sign.Question kind then Some others else None) ≡ None
+    by_kind : (kind : Kind) → (kind ≡ k.Question → ⊥) → (if is_kind_of fixed.Question kind then Some others else None) ≡ None
     by_kind k.Question none = absurd (none refl)
     by_kind kind none = refl
 
@@ -91,8 +92,8 @@ read-bracketed opening closing e us opens closes read = IsRead-operand 8 e (open
     let inside : expression_at ((us ++ closing ∷ []) ++ others) ≡ Some (e, closing ∷ others) =
     ap expression_at (append_assoc us (closing ∷ []) others)
     ∙ read.whole (closing ∷ others) refl (rw closes refl, λ question. absurd cc) in
-    let last : behind_sign sign.CloseRound (closing ∷ others) ≡ Some others =
-    ap (λ (kind : Kind). if is_sign sign.CloseRound kind then Some others else None) closes in
+    let last : behind_sign fixed.CloseRound (closing ∷ others) ≡ Some others =
+    ap (λ (kind : Kind). if is_kind_of fixed.CloseRound kind then Some others else None) closes in
     operand_at-bracket opening ((us ++ closing ∷ []) ++ others) opens ∙ ap closed inside
     ∙ ap (λ (after : Option (List Token)). after >>= λ others. Some (e, others)) last
 
@@ -132,9 +133,9 @@ choice_at-chosen : (question colon : Token) (cond e f : RawExpression) (vs ws ot
     → choice_at cond (question ∷ (vs ++ colon ∷ (ws ++ others))) ≡ Some (Cond cond e f, others)
 choice_at-chosen question colon cond e f vs ws others asks parts first second =
     choice_at-asked cond (question ∷ (vs ++ colon ∷ (ws ++ others))) (vs ++ colon ∷ (ws ++ others))
-    (ap (λ (kind : Kind). if is_sign sign.Question kind then Some (vs ++ colon ∷ (ws ++ others)) else None) asks)
+    (ap (λ (kind : Kind). if is_kind_of fixed.Question kind then Some (vs ++ colon ∷ (ws ++ others)) else None) asks)
     ∙ ap (choice_from cond) first
-    ∙ ap (λ (kind : Kind). (if is_sign sign.Colon kind then Some (ws ++ others) else None)
+    ∙ ap (λ (kind : Kind). (if is_kind_of fixed.Colon kind then Some (ws ++ others) else None)
     >>= λ after. choice_to cond e (expression_at after)) parts
     ∙ ap (choice_to cond e) second
 

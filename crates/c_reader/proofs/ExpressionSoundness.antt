@@ -8,8 +8,8 @@ use Rattle.c_tokens.specs.declared.token.Token.{Token}
 use Rattle.c_reader.specs.Expressions as spelled
 use Rattle.c_reader.specs.Expressions.{operator_of, SpellsAt, alone, joined, SpellsExpression, EndsExpression}
 use Rattle.c_reader.specs.ReadExpressions.{operand_within, further_within, choice_within, operand_at, expression_at}
-use Rattle.c_reader.specs.declared.sign.Sign.TheVariants as sign
-use Rattle.c_reader.specs.Signs.{behind_sign}
+use Rattle.c_tokens.specs.declared.fixed.Fixed.TheVariants as fixed
+use Rattle.c_reader.specs.Fronts.{behind_sign}
 use Rattle.c_reader.proofs.Equations.{whole_within-at}
 use Rattle.c_reader.proofs.Parts.{Stops, IsNext, OperandIs, OperandIs-from_operand, named, constant, bracketed, signed, JoinedIs, JoinedIs-from_joined, ChosenIs, ChosenIs-from_chosen, ends, goes_on, LevelIs-from_level, WholeIs-from_whole}
 use Rattle.c_reader.proofs.Bounds.{level_within, whole_within}
@@ -42,6 +42,8 @@ operator-level k.GreaterEq at op is = level_is 4 at _ op (omega arith) (omega ar
 operator-level k.Plus at op is = level_is 5 at _ op (omega arith) (omega arith) is
 operator-level k.Minus at op is = level_is 5 at _ op (omega arith) (omega arith) is
 operator-level k.Star at op is = level_is 6 at _ op (omega arith) (omega arith) is
+operator-level k.Slash at op is = level_is 6 at _ op (omega arith) (omega arith) is
+operator-level k.Percent at op is = level_is 6 at _ op (omega arith) (omega arith) is
 operator-level kind at op is = absurd cc
 
 -- Tokens of a level spell at each looser one.
@@ -156,7 +158,7 @@ further-sound n sound level at left us whole tokens e last low most spells parts
     b.stops further
 
 -- Where no operator and no `?` stands first, no expression goes on.
-pub EndsExpression-from_none : (tokens : List Token) → Stops 1 tokens → behind_sign sign.Question tokens ≡ None → EndsExpression tokens
+pub EndsExpression-from_none : (tokens : List Token) → Stops 1 tokens → behind_sign fixed.Question tokens ≡ None → EndsExpression tokens
 EndsExpression-from_none [] stops none = tt
 EndsExpression-from_none (sign ∷ others) stops none = (by_operator (operator_of sign.kind) refl, λ question. cc (rw question at none))
   where

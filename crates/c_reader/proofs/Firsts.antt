@@ -7,12 +7,13 @@ use Rattle.c_ast.specs.RawTree.{RawExpression}
 use Rattle.c_tokens.specs.declared.kind.Kind.{Kind}
 use Rattle.c_tokens.specs.declared.kind.Kind.TheVariants as k
 use Rattle.c_tokens.specs.declared.token.Token.{Token}
-use Rattle.c_reader.specs.declared.sign.Sign.{Sign}
-use Rattle.c_reader.specs.declared.sign.Sign.TheVariants as sign
+use Rattle.c_tokens.specs.declared.fixed.Fixed.{Fixed}
+use Rattle.c_tokens.specs.declared.fixed.Fixed.TheVariants as fixed
 use Rattle.c_reader.specs.Expressions.{SpellsAt, SpellsExpression, EndsExpression, operator_of, unary_of}
 use Rattle.c_reader.specs.Declarations.{Statement, SpellsType, SpellsName, SpellsListed}
 use Rattle.c_reader.specs.Statements.{SpellsStatement, SpellsSimple, SpellsMark, step_of}
-use Rattle.c_reader.specs.Signs.{is_sign, behind_sign, begins, skipped}
+use Rattle.c_tokens.specs.Fixed.{is_kind_of}
+use Rattle.c_reader.specs.Fronts.{behind_sign, begins, skipped, is_either}
 use Rattle.c_reader.proofs.Reading.{behind_sign-other}
 
 -- The first token passes the test.
@@ -35,16 +36,16 @@ FirstIs-append test us vs at = record {
 }
 
 -- A sign that no kind of the test is does not stand first.
-pub begins-not : (test : Kind → Bool) (s : Sign) (tokens : List Token)
-    → ((kind : Kind) → test kind ≡ true → is_sign s kind ≡ false) → FirstIs test tokens → begins s tokens ≡ false
+pub begins-not : (test : Kind → Bool) (s : Fixed) (tokens : List Token)
+    → ((kind : Kind) → test kind ≡ true → is_kind_of s kind ≡ false) → FirstIs test tokens → begins s tokens ≡ false
 begins-not test s tokens apart at = ap (begins s) at.parts ∙ apart at.first.kind at.is
 
-pub behind_sign-not : (test : Kind → Bool) (s : Sign) (tokens : List Token)
-    → ((kind : Kind) → test kind ≡ true → is_sign s kind ≡ false) → FirstIs test tokens → behind_sign s tokens ≡ None
+pub behind_sign-not : (test : Kind → Bool) (s : Fixed) (tokens : List Token)
+    → ((kind : Kind) → test kind ≡ true → is_kind_of s kind ≡ false) → FirstIs test tokens → behind_sign s tokens ≡ None
 behind_sign-not test s tokens apart at =
     ap (behind_sign s) at.parts ∙ behind_sign-other s at.first at.others (apart at.first.kind at.is)
 
-pub skipped-not : (s : Sign) (tokens : List Token) → begins s tokens ≡ false → skipped s tokens ≡ tokens
+pub skipped-not : (s : Fixed) (tokens : List Token) → begins s tokens ≡ false → skipped s tokens ≡ tokens
 skipped-not s [] is = refl
 skipped-not s (first ∷ others) is = rw is refl
 
@@ -65,12 +66,12 @@ type-first _ (SpellsType.long_long first second is_long is_again) = first_is sta
 type-first _ (SpellsType.long_long_int first second third is_long is_again is_int) =
     first_is starts_type first (second ∷ third ∷ []) k.Long is_long refl
 
-pub type-no_bracket : (kind : Kind) → starts_type kind ≡ true → is_sign sign.CloseRound kind ≡ false
+pub type-no_bracket : (kind : Kind) → starts_type kind ≡ true → is_kind_of fixed.CloseRound kind ≡ false
 unfolding starts_type
 type-no_bracket k.CloseRound is = absurd cc
 type-no_bracket _ is = refl
 
-pub type-no_void : (kind : Kind) → starts_type kind ≡ true → is_sign sign.Void kind ≡ false
+pub type-no_void : (kind : Kind) → starts_type kind ≡ true → is_kind_of fixed.Void kind ≡ false
 unfolding starts_type
 type-no_void k.Void is = absurd cc
 type-no_void _ is = refl
@@ -83,12 +84,12 @@ pub name-first : (var : Var) (us : List Token) → SpellsName var us → FirstIs
 unfolding starts_name
 name-first _ _ (SpellsName.name name word is) = first_is starts_name word [] (k.Word name) is refl
 
-pub name-no_int : (kind : Kind) → starts_name kind ≡ true → is_sign sign.Int kind ≡ false
+pub name-no_int : (kind : Kind) → starts_name kind ≡ true → is_kind_of fixed.Int kind ≡ false
 unfolding starts_name
 name-no_int k.Int is = absurd cc
 name-no_int _ is = refl
 
-pub name-no_long : (kind : Kind) → starts_name kind ≡ true → is_sign sign.Long kind ≡ false
+pub name-no_long : (kind : Kind) → starts_name kind ≡ true → is_kind_of fixed.Long kind ≡ false
 unfolding starts_name
 name-no_long k.Long is = absurd cc
 name-no_long _ is = refl
@@ -99,32 +100,32 @@ listed-first test Spells _ us first (SpellsListed.last x vs spells) = first x vs
 listed-first test Spells _ us first (SpellsListed.more x others comma vs ws is spells spells_others) =
     FirstIs-append test vs (comma ∷ ws) (first x vs spells)
 
-pub type-no_else : (kind : Kind) → starts_type kind ≡ true → is_sign sign.Else kind ≡ false
+pub type-no_else : (kind : Kind) → starts_type kind ≡ true → is_kind_of fixed.Else kind ≡ false
 unfolding starts_type
 type-no_else k.Else is = absurd cc
 type-no_else _ is = refl
 
-pub type-no_brace : (kind : Kind) → starts_type kind ≡ true → is_sign sign.CloseCurly kind ≡ false
+pub type-no_brace : (kind : Kind) → starts_type kind ≡ true → is_kind_of fixed.CloseCurly kind ≡ false
 unfolding starts_type
 type-no_brace k.CloseCurly is = absurd cc
 type-no_brace _ is = refl
 
-pub type-no_semicolon : (kind : Kind) → starts_type kind ≡ true → is_sign sign.Semicolon kind ≡ false
+pub type-no_semicolon : (kind : Kind) → starts_type kind ≡ true → is_kind_of fixed.Semicolon kind ≡ false
 unfolding starts_type
 type-no_semicolon k.Semicolon is = absurd cc
 type-no_semicolon _ is = refl
 
-pub name-no_mark : (kind : Kind) → starts_name kind ≡ true → is_sign sign.MarkWord kind ≡ false
+pub name-no_mark : (kind : Kind) → starts_name kind ≡ true → is_kind_of fixed.MarkWord kind ≡ false
 unfolding starts_name
 name-no_mark k.MarkWord is = absurd cc
 name-no_mark _ is = refl
 
-pub name-no_bracket : (kind : Kind) → starts_name kind ≡ true → is_sign sign.CloseRound kind ≡ false
+pub name-no_bracket : (kind : Kind) → starts_name kind ≡ true → is_kind_of fixed.CloseRound kind ≡ false
 unfolding starts_name
 name-no_bracket k.CloseRound is = absurd cc
 name-no_bracket _ is = refl
 
-pub type-no_qualifier : (kind : Kind) → starts_type kind ≡ true → is_sign sign.Qualifier kind ≡ false
+pub type-no_qualifier : (kind : Kind) → starts_type kind ≡ true → is_either fixed.Extern fixed.Static kind ≡ false
 unfolding starts_type
 type-no_qualifier k.Extern is = absurd cc
 type-no_qualifier k.Static is = absurd cc
@@ -170,12 +171,12 @@ expression_at-first _ _ _ (SpellsAt.alone level e us low spells) = expression_at
 pub expression-first : (e : RawExpression) (us : List Token) → SpellsExpression e us → FirstIs starts_expression us
 expression-first e us spells = expression_at-first 0 e us spells
 
-pub expression-no_semicolon : (kind : Kind) → starts_expression kind ≡ true → is_sign sign.Semicolon kind ≡ false
+pub expression-no_semicolon : (kind : Kind) → starts_expression kind ≡ true → is_kind_of fixed.Semicolon kind ≡ false
 unfolding starts_expression
 expression-no_semicolon k.Semicolon is = absurd cc
 expression-no_semicolon _ is = refl
 
-pub expression-no_mark : (kind : Kind) → starts_expression kind ≡ true → is_sign sign.MarkWord kind ≡ false
+pub expression-no_mark : (kind : Kind) → starts_expression kind ≡ true → is_kind_of fixed.MarkWord kind ≡ false
 unfolding starts_expression
 expression-no_mark k.MarkWord is = absurd cc
 expression-no_mark _ is = refl
@@ -231,22 +232,22 @@ simple-first _ _ (SpellsSimple.step_before name op word sign named is) = record 
   is = step-first sign.kind op is;
 }
 
-pub simple-no_int : (kind : Kind) → starts_simple kind ≡ true → is_sign sign.Int kind ≡ false
+pub simple-no_int : (kind : Kind) → starts_simple kind ≡ true → is_kind_of fixed.Int kind ≡ false
 unfolding starts_simple
 simple-no_int k.Int is = absurd cc
 simple-no_int _ is = refl
 
-pub simple-no_long : (kind : Kind) → starts_simple kind ≡ true → is_sign sign.Long kind ≡ false
+pub simple-no_long : (kind : Kind) → starts_simple kind ≡ true → is_kind_of fixed.Long kind ≡ false
 unfolding starts_simple
 simple-no_long k.Long is = absurd cc
 simple-no_long _ is = refl
 
-pub simple-no_semicolon : (kind : Kind) → starts_simple kind ≡ true → is_sign sign.Semicolon kind ≡ false
+pub simple-no_semicolon : (kind : Kind) → starts_simple kind ≡ true → is_kind_of fixed.Semicolon kind ≡ false
 unfolding starts_simple
 simple-no_semicolon k.Semicolon is = absurd cc
 simple-no_semicolon _ is = refl
 
-pub simple-no_bracket : (kind : Kind) → starts_simple kind ≡ true → is_sign sign.CloseRound kind ≡ false
+pub simple-no_bracket : (kind : Kind) → starts_simple kind ≡ true → is_kind_of fixed.CloseRound kind ≡ false
 unfolding starts_simple
 simple-no_bracket k.CloseRound is = absurd cc
 simple-no_bracket _ is = refl
@@ -295,22 +296,22 @@ statement-first _ _ (SpellsStatement.return e word semicolon us is ends spells) 
 statement-first _ _ (SpellsStatement.mark number semicolon us ends spells) =
     FirstIs-append starts_statement us (semicolon ∷ []) (mark-first number us spells)
 
-pub statement-no_else : (kind : Kind) → starts_statement kind ≡ true → is_sign sign.Else kind ≡ false
+pub statement-no_else : (kind : Kind) → starts_statement kind ≡ true → is_kind_of fixed.Else kind ≡ false
 unfolding starts_statement
 statement-no_else k.Else is = absurd cc
 statement-no_else _ is = refl
 
-pub statement-no_brace : (kind : Kind) → starts_statement kind ≡ true → is_sign sign.CloseCurly kind ≡ false
+pub statement-no_brace : (kind : Kind) → starts_statement kind ≡ true → is_kind_of fixed.CloseCurly kind ≡ false
 unfolding starts_statement
 statement-no_brace k.CloseCurly is = absurd cc
 statement-no_brace _ is = refl
 
-pub statement-no_int : (kind : Kind) → starts_statement kind ≡ true → is_sign sign.Int kind ≡ false
+pub statement-no_int : (kind : Kind) → starts_statement kind ≡ true → is_kind_of fixed.Int kind ≡ false
 unfolding starts_statement
 statement-no_int k.Int is = absurd cc
 statement-no_int _ is = refl
 
-pub statement-no_long : (kind : Kind) → starts_statement kind ≡ true → is_sign sign.Long kind ≡ false
+pub statement-no_long : (kind : Kind) → starts_statement kind ≡ true → is_kind_of fixed.Long kind ≡ false
 unfolding starts_statement
 statement-no_long k.Long is = absurd cc
 statement-no_long _ is = refl

@@ -25,3 +25,5 @@ pub mod Shaped
 pub mod UnitLoop
 pub mod ShortStatements
 pub mod UnitSamples
+pub mod WholeExpressions
+pub mod Laws

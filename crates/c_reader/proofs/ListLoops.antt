@@ -2,10 +2,10 @@
 use Rattle.std.proofs.Common.{◌≡◌, ℕ, zero, suc, ◌<◌, List, [], ◌∷◌, ◌++◌, length, Option, Some, None, refl, sym, ap, subst, ◌∙◌, append_assoc, arith}
 use Rattle.std.proofs.lemmas.List.{append-nil}
 use Rattle.c_tokens.specs.declared.token.Token.{Token}
-use Rattle.c_reader.specs.declared.sign.Sign.TheVariants as sign
+use Rattle.c_tokens.specs.declared.fixed.Fixed.TheVariants as fixed
 use Rattle.c_reader.specs.Declarations.{Statement}
 use Rattle.c_reader.specs.ReadExpressions.{◌>>=◌}
-use Rattle.c_reader.specs.Signs.{behind_sign}
+use Rattle.c_reader.specs.Fronts.{behind_sign}
 use Rattle.c_reader.specs.ReadDeclarations.{Reads, listed_by, listed_within, listed_at}
 use Rattle.c_reader.specs.ReadStatements.{entry_at, entries_at, entries_by, entries_within}
 use Rattle.c_reader.proofs.Reading.{step, IsSound, Front-shorter, SignFirst-short, behind_sign-found}
@@ -49,7 +49,7 @@ none-by : {X : Type 0} (item : List Token → Reads X) (made : List X) (others :
     → prefixed made (listed_within item n others) ≡ whole → item others ≡ None → whole ≡ None
 none-by item made others whole zero same none = sym same
 none-by item made others whole (suc n) same none =
-    sym same ∙ ap (prefixed made) (none-step (λ x. listed_by x.0 x.1 (behind_sign sign.Comma x.1)
+    sym same ∙ ap (prefixed made) (none-step (λ x. listed_by x.0 x.1 (behind_sign fixed.Comma x.1)
     (listed_within item n)) none)
 
 pub listed-none : {X : Type 0} (item : List Token → Reads X) (made : List X) (others : List Token) (whole : Reads (List X))
@@ -58,16 +58,16 @@ listed-none item made others whole so_far none = none-by item made others whole 
 
 last-by : {X : Type 0} (item : List Token → Reads X) (made : List X) (others after : List Token) (x : X)
     (whole : Reads (List X)) (n : ℕ) → length others < n → prefixed made (listed_within item n others) ≡ whole
-    → item others ≡ Some (x, after) → behind_sign sign.Comma after ≡ None → whole ≡ Some (made ++ x ∷ [], after)
+    → item others ≡ Some (x, after) → behind_sign fixed.Comma after ≡ None → whole ≡ Some (made ++ x ∷ [], after)
 last-by item made others after x whole zero enough same found none = absurd (omega arith)
 last-by item made others after x whole (suc n) enough same found none =
     sym same ∙ ap (prefixed made)
-    (step (λ y. listed_by y.0 y.1 (behind_sign sign.Comma y.1) (listed_within item n)) (x, after) found
+    (step (λ y. listed_by y.0 y.1 (behind_sign fixed.Comma y.1) (listed_within item n)) (x, after) found
     (ap (λ behind. listed_by x after behind (listed_within item n)) none))
 
 pub listed-last : {X : Type 0} (item : List Token → Reads X) (made new : List X) (others after : List Token) (x : X)
     (whole : Reads (List X)) → ListedSoFar item made others whole → item others ≡ Some (x, after)
-    → behind_sign sign.Comma after ≡ None → new ≡ made ++ x ∷ [] → whole ≡ Some (new, after)
+    → behind_sign fixed.Comma after ≡ None → new ≡ made ++ x ∷ [] → whole ≡ Some (new, after)
 listed-last item made new others after x whole so_far found none pushed =
     last-by item made others after x whole so_far.fuel so_far.enough so_far.same found none
     ∙ ap (λ l. Some (l, after)) (sym pushed)
@@ -75,29 +75,29 @@ listed-last item made new others after x whole so_far found none pushed =
 more-by : {X : Type 0} (item : List Token → Reads X) (made : List X) (others after behind : List Token) (x : X)
     (whole : Reads (List X)) (n : ℕ) → length behind < length others → length others < n
     → prefixed made (listed_within item n others) ≡ whole → item others ≡ Some (x, after)
-    → behind_sign sign.Comma after ≡ Some behind → ListedSoFar item (made ++ x ∷ []) behind whole
+    → behind_sign fixed.Comma after ≡ Some behind → ListedSoFar item (made ++ x ∷ []) behind whole
 more-by item made others after behind x whole zero shorter enough same found comma = absurd (omega arith)
 more-by item made others after behind x whole (suc n) shorter enough same found comma = record {
   fuel = n;
   enough = omega arith;
   same = sym (prefixed-more made x (listed_within item n behind)) ∙ sym (ap (prefixed made)
-      (step (λ y. listed_by y.0 y.1 (behind_sign sign.Comma y.1) (listed_within item n)) (x, after) found
+      (step (λ y. listed_by y.0 y.1 (behind_sign fixed.Comma y.1) (listed_within item n)) (x, after) found
       (ap (λ next. listed_by x after next (listed_within item n)) comma))) ∙ same;
 }
 
 pub listed-shorter : {X : Type 0} (Spells : X → List Token → Type 0) (item : List Token → Reads X)
     (others after behind : List Token) (x : X) → IsSound Spells item → item others ≡ Some (x, after)
-    → behind_sign sign.Comma after ≡ Some behind → length behind < length others
+    → behind_sign fixed.Comma after ≡ Some behind → length behind < length others
 listed-shorter Spells item others after behind x sound found comma =
     omega (
       arith,
       Front-shorter Spells others x after (sound others (x, after) found),
-      SignFirst-short sign.Comma after behind (behind_sign-found sign.Comma after behind comma),
+      SignFirst-short fixed.Comma after behind (behind_sign-found fixed.Comma after behind comma),
     )
 
 pub listed-more : {X : Type 0} (Spells : X → List Token → Type 0) (item : List Token → Reads X) (made new : List X)
     (others after behind : List Token) (x : X) (whole : Reads (List X)) → IsSound Spells item
-    → ListedSoFar item made others whole → item others ≡ Some (x, after) → behind_sign sign.Comma after ≡ Some behind
+    → ListedSoFar item made others whole → item others ≡ Some (x, after) → behind_sign fixed.Comma after ≡ Some behind
     → new ≡ made ++ x ∷ [] → ListedSoFar item new behind whole
 listed-more Spells item made new others after behind x whole sound so_far found comma pushed =
     subst (λ l. ListedSoFar item l behind whole) (sym pushed)
@@ -125,7 +125,7 @@ entries-start room inside tokens = record {
 
 closed-by : (item : List Token → Reads Statement) (made : List Statement) (others after : List Token)
     (whole : Reads (List Statement)) (n : ℕ) → length others < n → prefixed made (entries_within item n others) ≡ whole
-    → behind_sign sign.CloseCurly others ≡ Some after → whole ≡ Some (made, after)
+    → behind_sign fixed.CloseCurly others ≡ Some after → whole ≡ Some (made, after)
 closed-by item made others after whole zero enough same closing = absurd (omega arith)
 closed-by item made others after whole (suc n) enough same closing =
     sym same ∙ ap (λ behind. prefixed made (entries_by behind (item others >>= λ x. entries_within item n x.1 >>= λ
@@ -134,19 +134,19 @@ closed-by item made others after whole (suc n) enough same closing =
 
 pub entries-closed : (item : List Token → Reads Statement) (made : List Statement) (others after : List Token)
     (whole : Reads (List Statement)) → EntriesSoFar item made others whole
-    → behind_sign sign.CloseCurly others ≡ Some after → whole ≡ Some (made, after)
+    → behind_sign fixed.CloseCurly others ≡ Some after → whole ≡ Some (made, after)
 entries-closed item made others after whole so_far closing =
     closed-by item made others after whole so_far.fuel so_far.enough so_far.same closing
 
 -- where no brace closes the block, an entry is read
-pub on-by : (item : List Token → Reads Statement) (others : List Token) (n : ℕ) → behind_sign sign.CloseCurly others ≡ None
+pub on-by : (item : List Token → Reads Statement) (others : List Token) (n : ℕ) → behind_sign fixed.CloseCurly others ≡ None
     → entries_within item (suc n) others ≡ (item others >>= λ x. entries_within item n x.1 >>= λ y. Some (x.0 ∷ y.0, y.1))
 on-by item others n none =
     ap (λ behind. entries_by behind (item others >>= λ x. entries_within item n x.1 >>= λ y. Some (x.0 ∷ y.0, y.1))) none
 
 refused-by : (item : List Token → Reads Statement) (made : List Statement) (others : List Token)
     (whole : Reads (List Statement)) (n : ℕ) → prefixed made (entries_within item n others) ≡ whole
-    → behind_sign sign.CloseCurly others ≡ None → item others ≡ None → whole ≡ None
+    → behind_sign fixed.CloseCurly others ≡ None → item others ≡ None → whole ≡ None
 refused-by item made others whole zero same none refused = sym same
 refused-by item made others whole (suc n) same none refused =
     sym same ∙ ap (prefixed made) (on-by item others n none
@@ -154,13 +154,13 @@ refused-by item made others whole (suc n) same none refused =
 
 pub entries-refused : (item : List Token → Reads Statement) (made : List Statement) (others : List Token)
     (whole : Reads (List Statement)) → EntriesSoFar item made others whole
-    → behind_sign sign.CloseCurly others ≡ None → item others ≡ None → whole ≡ None
+    → behind_sign fixed.CloseCurly others ≡ None → item others ≡ None → whole ≡ None
 entries-refused item made others whole so_far none refused =
     refused-by item made others whole so_far.fuel so_far.same none refused
 
 read-by : (item : List Token → Reads Statement) (made : List Statement) (others after : List Token) (s : Statement)
     (whole : Reads (List Statement)) (n : ℕ) → length after < length others → length others < n
-    → prefixed made (entries_within item n others) ≡ whole → behind_sign sign.CloseCurly others ≡ None
+    → prefixed made (entries_within item n others) ≡ whole → behind_sign fixed.CloseCurly others ≡ None
     → item others ≡ Some (s, after) → EntriesSoFar item (made ++ s ∷ []) after whole
 read-by item made others after s whole zero shorter enough same none found = absurd (omega arith)
 read-by item made others after s whole (suc n) shorter enough same none found = record {
@@ -172,7 +172,7 @@ read-by item made others after s whole (suc n) shorter enough same none found = 
 
 pub entries-read : (item : List Token → Reads Statement) (made new : List Statement) (others after : List Token)
     (s : Statement) (whole : Reads (List Statement)) → length after < length others
-    → EntriesSoFar item made others whole → behind_sign sign.CloseCurly others ≡ None
+    → EntriesSoFar item made others whole → behind_sign fixed.CloseCurly others ≡ None
     → item others ≡ Some (s, after) → new ≡ made ++ s ∷ [] → EntriesSoFar item new after whole
 entries-read item made new others after s whole shorter so_far none found pushed =
     subst (λ l. EntriesSoFar item l after whole) (sym pushed)

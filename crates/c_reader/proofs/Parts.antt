@@ -11,8 +11,8 @@ use Rattle.c_tokens.specs.declared.kind.Kind.TheVariants as k
 use Rattle.c_tokens.specs.declared.token.Token.{Token}
 use Rattle.c_reader.specs.Expressions.{unary_of, operator_of}
 use Rattle.c_reader.specs.ReadExpressions.{Reader, Further, NextOperator, ◌>>=◌, Reading, next_operator, operand_by, joined_by, chosen_by, level_by, whole_by}
-use Rattle.c_reader.specs.declared.sign.Sign.TheVariants as sign
-use Rattle.c_reader.specs.Signs.{behind_sign}
+use Rattle.c_tokens.specs.declared.fixed.Fixed.TheVariants as fixed
+use Rattle.c_reader.specs.Fronts.{behind_sign}
 use Rattle.c_reader.proofs.Reading.{stepped, SignFirst, behind_sign-found}
 
 -- Two readings of equal steps are equal.
@@ -76,7 +76,7 @@ pub data OperandIs (kind : Kind) (line : ℕ) (others : List Token) (inside oper
   constant : (value : ℕ) → kind ≡ k.Constant value → value < 2 ^ 63
       → OperandIs kind line others inside operand (Num (pos value)) others
   bracketed : (e : RawExpression) (after last : List Token) → kind ≡ k.OpenRound → inside ≡ Some (e, after)
-      → SignFirst sign.CloseRound after last → OperandIs kind line others inside operand e last
+      → SignFirst fixed.CloseRound after last → OperandIs kind line others inside operand e last
   signed : (op : UnOp) (e : RawExpression) (last : List Token) → unary_of kind ≡ Some op → operand ≡ Some (e, last)
       → OperandIs kind line others inside operand (Un op e) last
 
@@ -106,10 +106,10 @@ OperandIs-from_operand (k.Constant value) line others inside operand e last is =
     (constant value refl (grind (arith, nat_tests, both.0)))
 OperandIs-from_operand k.OpenRound line others inside operand e last is =
     let step = stepped inside _ (e, last) is in
-    let closing = stepped (behind_sign sign.CloseRound step.0.1) _ (e, last) step.2 in
+    let closing = stepped (behind_sign fixed.CloseRound step.0.1) _ (e, last) step.2 in
     subst (λ (x : RawExpression × List Token). OperandIs k.OpenRound line others inside operand x.0 x.1)
     (same_Some (step.0.0, closing.0) (e, last) closing.2)
-    (bracketed step.0.0 step.0.1 closing.0 refl step.1 (behind_sign-found sign.CloseRound step.0.1 closing.0 closing.1))
+    (bracketed step.0.0 step.0.1 closing.0 refl step.1 (behind_sign-found fixed.CloseRound step.0.1 closing.0 closing.1))
 OperandIs-from_operand kind line others inside operand e last is =
     OperandIs-from_sign kind line others inside operand e last is
 
@@ -138,28 +138,28 @@ JoinedIs-from_joined left tokens level right further e last is = by_next (next_o
 
 -- what goes on from a condition
 pub data ChosenIs (cond : RawExpression) (tokens : List Token) (value : Reader) (e : RawExpression) (last : List Token) : Type 0 where
-  ends : cond ≡ e → tokens ≡ last → behind_sign sign.Question tokens ≡ None → ChosenIs cond tokens value e last
-  goes_on : (others after others' : List Token) (f g : RawExpression) → SignFirst sign.Question tokens others
-      → value others ≡ Some (f, after) → SignFirst sign.Colon after others' → value others' ≡ Some (g, last)
+  ends : cond ≡ e → tokens ≡ last → behind_sign fixed.Question tokens ≡ None → ChosenIs cond tokens value e last
+  goes_on : (others after others' : List Token) (f g : RawExpression) → SignFirst fixed.Question tokens others
+      → value others ≡ Some (f, after) → SignFirst fixed.Colon after others' → value others' ≡ Some (g, last)
       → Cond cond f g ≡ e → ChosenIs cond tokens value e last
 
 pub ChosenIs-from_chosen : (cond : RawExpression) (tokens : List Token) (value : Reader)
     (e : RawExpression) (last : List Token)
-    → chosen_by cond tokens (behind_sign sign.Question tokens) value ≡ Some (e, last) → ChosenIs cond tokens value e last
-ChosenIs-from_chosen cond tokens value e last is = by_behind (behind_sign sign.Question tokens) refl is
+    → chosen_by cond tokens (behind_sign fixed.Question tokens) value ≡ Some (e, last) → ChosenIs cond tokens value e last
+ChosenIs-from_chosen cond tokens value e last is = by_behind (behind_sign fixed.Question tokens) refl is
   where
-    by_behind : (others : Option (List Token)) → behind_sign sign.Question tokens ≡ others
+    by_behind : (others : Option (List Token)) → behind_sign fixed.Question tokens ≡ others
         → chosen_by cond tokens others value ≡ Some (e, last) → ChosenIs cond tokens value e last
     by_behind None none is =
         let both = same_Some (cond, tokens) (e, last) is in
         ends (ap (λ (x : RawExpression × List Token). x.0) both) (ap (λ (x : RawExpression × List Token). x.1) both) none
     by_behind (Some others) some is =
         let first = stepped (value others) _ (e, last) is in
-        let colon = stepped (behind_sign sign.Colon first.0.1) _ (e, last) first.2 in
+        let colon = stepped (behind_sign fixed.Colon first.0.1) _ (e, last) first.2 in
         let second = stepped (value colon.0) _ (e, last) colon.2 in
         let both = same_Some (Cond cond first.0.0 second.0.0, second.0.1) (e, last) second.2 in
-        goes_on others first.0.1 colon.0 first.0.0 second.0.0 (behind_sign-found sign.Question tokens others some)
-        first.1 (behind_sign-found sign.Colon first.0.1 colon.0 colon.1)
+        goes_on others first.0.1 colon.0 first.0.0 second.0.0 (behind_sign-found fixed.Question tokens others some)
+        first.1 (behind_sign-found fixed.Colon first.0.1 colon.0 colon.1)
         (second.1 ∙ ap (λ (x : RawExpression × List Token). Some (second.0.0, x.1)) both)
         (ap (λ (x : RawExpression × List Token). x.0) both)
 

@@ -1,13 +1,13 @@
 -- Steps of reading: what follows from one that found something, and what makes one find it.
-use Rattle.std.proofs.Common.{◌≡◌, ◌+◌, ◌≤◌, Bool, true, false, List, [], ◌∷◌, ◌++◌, length, length-append, Option, Some, None, refl, sym, ap, ◌∙◌, append_assoc, inl, inr, ◌⊎◌, arith}
+use Rattle.std.proofs.Common.{◌≡◌, ℕ, zero, suc, ◌+◌, ◌≤◌, Bool, true, false, ◌||◌, List, [], ◌∷◌, ◌++◌, length, length-append, Option, Some, None, if◌then◌else◌, refl, sym, ap, ◌∙◌, append_assoc, inl, inr, ◌⊎◌, arith}
 use Rattle.c_tokens.specs.declared.kind.Kind.{Kind}
-use Rattle.c_tokens.specs.declared.kind.Kind.TheVariants as k
 use Rattle.c_tokens.specs.declared.token.Token.{Token}
-use Rattle.c_reader.specs.declared.sign.Sign.{Sign}
-use Rattle.c_reader.specs.declared.sign.Sign.TheVariants as sign
+use Rattle.c_tokens.specs.declared.fixed.Fixed.{Fixed}
 use Rattle.c_reader.specs.ReadExpressions.{◌>>=◌}
 use Rattle.c_reader.specs.ReadDeclarations.{Reads}
-use Rattle.c_reader.specs.Signs.{is_sign, behind_sign, begins}
+use Rattle.c_tokens.specs.Fixed.{kind_of, is_kind_of}
+use Rattle.c_tokens.proofs.Laws.{kinds-one}
+use Rattle.c_reader.specs.Fronts.{first_of, lowered, behind_sign, begins, is_either, behind_either}
 
 -- a step that finds this goes on from it
 pub step : {A B : Type 0} {m : Option A} (f : A → Option B) {r : Option B} (a : A) → m ≡ Some a → f a ≡ r → (m >>= f) ≡ r
@@ -21,86 +21,33 @@ stepped (Some a) f b is = (a, refl, is)
 
 -- ---- signs
 
--- The kind is one that the sign names.
-abbrev pub HasSign : Sign → Kind → Type 0
-HasSign sign.Int kind = kind ≡ k.Int
-HasSign sign.Long kind = kind ≡ k.Long
-HasSign sign.Void kind = kind ≡ k.Void
-HasSign sign.Else kind = kind ≡ k.Else
-HasSign sign.While kind = kind ≡ k.While
-HasSign sign.MarkWord kind = kind ≡ k.MarkWord
-HasSign sign.OpenRound kind = kind ≡ k.OpenRound
-HasSign sign.CloseRound kind = kind ≡ k.CloseRound
-HasSign sign.OpenCurly kind = kind ≡ k.OpenCurly
-HasSign sign.CloseCurly kind = kind ≡ k.CloseCurly
-HasSign sign.Semicolon kind = kind ≡ k.Semicolon
-HasSign sign.Comma kind = kind ≡ k.Comma
-HasSign sign.Assign kind = kind ≡ k.Assign
-HasSign sign.Question kind = kind ≡ k.Question
-HasSign sign.Colon kind = kind ≡ k.Colon
-HasSign sign.Ampersand kind = (kind ≡ k.Amp) ⊎ (kind ≡ k.AmpAmp)
-HasSign sign.Qualifier kind = (kind ≡ k.Extern) ⊎ (kind ≡ k.Static)
+-- The kind is that of the sign.
+abbrev pub HasSign : Fixed → Kind → Type 0
+HasSign s kind = kind ≡ kind_of s
 
-pub HasSign-from_test : (s : Sign) (kind : Kind) → is_sign s kind ≡ true → HasSign s kind
-HasSign-from_test sign.Int k.Int is = refl
-HasSign-from_test sign.Long k.Long is = refl
-HasSign-from_test sign.Void k.Void is = refl
-HasSign-from_test sign.Else k.Else is = refl
-HasSign-from_test sign.While k.While is = refl
-HasSign-from_test sign.MarkWord k.MarkWord is = refl
-HasSign-from_test sign.OpenRound k.OpenRound is = refl
-HasSign-from_test sign.CloseRound k.CloseRound is = refl
-HasSign-from_test sign.OpenCurly k.OpenCurly is = refl
-HasSign-from_test sign.CloseCurly k.CloseCurly is = refl
-HasSign-from_test sign.Semicolon k.Semicolon is = refl
-HasSign-from_test sign.Comma k.Comma is = refl
-HasSign-from_test sign.Assign k.Assign is = refl
-HasSign-from_test sign.Question k.Question is = refl
-HasSign-from_test sign.Colon k.Colon is = refl
-HasSign-from_test sign.Ampersand k.Amp is = inl refl
-HasSign-from_test sign.Ampersand k.AmpAmp is = inr refl
-HasSign-from_test sign.Qualifier k.Extern is = inl refl
-HasSign-from_test sign.Qualifier k.Static is = inr refl
-HasSign-from_test _ _ is = absurd cc
+pub HasSign-from_test : (s : Fixed) (kind : Kind) → is_kind_of s kind ≡ true → HasSign s kind
+HasSign-from_test s kind is = (kinds-one s kind).0 is
 
-pub test-from_HasSign : (s : Sign) (kind : Kind) → HasSign s kind → is_sign s kind ≡ true
-test-from_HasSign sign.Int kind is = ap (is_sign sign.Int) is
-test-from_HasSign sign.Long kind is = ap (is_sign sign.Long) is
-test-from_HasSign sign.Void kind is = ap (is_sign sign.Void) is
-test-from_HasSign sign.Else kind is = ap (is_sign sign.Else) is
-test-from_HasSign sign.While kind is = ap (is_sign sign.While) is
-test-from_HasSign sign.MarkWord kind is = ap (is_sign sign.MarkWord) is
-test-from_HasSign sign.OpenRound kind is = ap (is_sign sign.OpenRound) is
-test-from_HasSign sign.CloseRound kind is = ap (is_sign sign.CloseRound) is
-test-from_HasSign sign.OpenCurly kind is = ap (is_sign sign.OpenCurly) is
-test-from_HasSign sign.CloseCurly kind is = ap (is_sign sign.CloseCurly) is
-test-from_HasSign sign.Semicolon kind is = ap (is_sign sign.Semicolon) is
-test-from_HasSign sign.Comma kind is = ap (is_sign sign.Comma) is
-test-from_HasSign sign.Assign kind is = ap (is_sign sign.Assign) is
-test-from_HasSign sign.Question kind is = ap (is_sign sign.Question) is
-test-from_HasSign sign.Colon kind is = ap (is_sign sign.Colon) is
-test-from_HasSign sign.Ampersand kind (inl is) = ap (is_sign sign.Ampersand) is
-test-from_HasSign sign.Ampersand kind (inr is) = ap (is_sign sign.Ampersand) is
-test-from_HasSign sign.Qualifier kind (inl is) = ap (is_sign sign.Qualifier) is
-test-from_HasSign sign.Qualifier kind (inr is) = ap (is_sign sign.Qualifier) is
+pub test-from_HasSign : (s : Fixed) (kind : Kind) → HasSign s kind → is_kind_of s kind ≡ true
+test-from_HasSign s kind is = (kinds-one s kind).1 is
 
 -- the tokens behind a sign that stands first
-pub behind_sign-here : (s : Sign) (first : Token) (others : List Token) → HasSign s first.kind
+pub behind_sign-here : (s : Fixed) (first : Token) (others : List Token) → HasSign s first.kind
     → behind_sign s (first ∷ others) ≡ Some others
 behind_sign-here s first others is = rw (test-from_HasSign s first.kind is) refl
 
 -- where another kind stands first
-pub behind_sign-other : (s : Sign) (first : Token) (others : List Token) → is_sign s first.kind ≡ false
+pub behind_sign-other : (s : Fixed) (first : Token) (others : List Token) → is_kind_of s first.kind ≡ false
     → behind_sign s (first ∷ others) ≡ None
 behind_sign-other s first others is = rw is refl
 
 -- the first token, where the sign stands first
-pub record SignFirst (s : Sign) (tokens others : List Token) : Type 0 where
+pub record SignFirst (s : Fixed) (tokens others : List Token) : Type 0 where
   pub token : Token
   pub parts : tokens ≡ token ∷ others
   pub has : HasSign s token.kind
 
-found-by : (s : Sign) (first : Token) (after others : List Token) (test : Bool) → is_sign s first.kind ≡ test
+found-by : (s : Fixed) (first : Token) (after others : List Token) (test : Bool) → is_kind_of s first.kind ≡ test
     → behind_sign s (first ∷ after) ≡ Some others → SignFirst s (first ∷ after) others
 found-by s first after others true is found =
     let has = HasSign-from_test s first.kind is in
@@ -108,14 +55,67 @@ found-by s first after others true is found =
     record { token = first; parts = ap (λ (l : List Token). first ∷ l) same; has = has }
 found-by s first after others false is found = absurd (let none = behind_sign-other s first after is in cc)
 
-pub behind_sign-found : (s : Sign) (tokens others : List Token) → behind_sign s tokens ≡ Some others
+pub behind_sign-found : (s : Fixed) (tokens others : List Token) → behind_sign s tokens ≡ Some others
     → SignFirst s tokens others
 behind_sign-found s [] others found = absurd cc
-behind_sign-found s (first ∷ after) others found = found-by s first after others (is_sign s first.kind) refl found
+behind_sign-found s (first ∷ after) others found = found-by s first after others (is_kind_of s first.kind) refl found
 
-pub SignFirst-short : (s : Sign) (tokens others : List Token) → SignFirst s tokens others
+pub SignFirst-short : (s : Fixed) (tokens others : List Token) → SignFirst s tokens others
     → length tokens ≡ length others + 1
 SignFirst-short s tokens others first = rw first.parts (omega arith)
+
+-- ---- one of two signs
+
+-- The kind is that of one of the two signs.
+abbrev pub HasEither : Fixed → Fixed → Kind → Type 0
+HasEither one other kind = HasSign one kind ⊎ HasSign other kind
+
+either-by : (one other : Fixed) (kind : Kind) (first second : Bool) → is_kind_of one kind ≡ first
+    → is_kind_of other kind ≡ second → (first || second) ≡ true → HasEither one other kind
+either-by one other kind true second is is_other either = inl (HasSign-from_test one kind is)
+either-by one other kind false true is is_other either = inr (HasSign-from_test other kind is_other)
+either-by one other kind false false is is_other either = absurd cc
+
+pub HasEither-from_test : (one other : Fixed) (kind : Kind) → is_either one other kind ≡ true → HasEither one other kind
+HasEither-from_test one other kind is =
+    either-by one other kind (is_kind_of one kind) (is_kind_of other kind) refl refl is
+
+or_true : (b : Bool) → (b || true) ≡ true
+or_true true = refl
+or_true false = refl
+
+pub test-from_HasEither : (one other : Fixed) (kind : Kind) → HasEither one other kind → is_either one other kind ≡ true
+test-from_HasEither one other kind (inl is) = rw (test-from_HasSign one kind is) refl
+test-from_HasEither one other kind (inr is) = rw (test-from_HasSign other kind is) (or_true (is_kind_of one kind))
+
+-- the first token, where one of the signs stands first
+pub record EitherFirst (one other : Fixed) (tokens others : List Token) : Type 0 where
+  pub token : Token
+  pub parts : tokens ≡ token ∷ others
+  pub has : HasEither one other token.kind
+
+either-found : (one other : Fixed) (first : Token) (after others : List Token) (test : Bool)
+    → is_either one other first.kind ≡ test → (if test then Some after else None) ≡ Some others
+    → EitherFirst one other (first ∷ after) others
+either-found one other first after others true is found =
+    let same : after ≡ others = cc in
+    record {
+      token = first;
+      parts = ap (λ (l : List Token). first ∷ l) same;
+      has = HasEither-from_test one other first.kind is;
+    }
+either-found one other first after others false is found = absurd cc
+
+pub behind_either-found : (one other : Fixed) (tokens others : List Token) → behind_either one other tokens ≡ Some others
+    → EitherFirst one other tokens others
+behind_either-found one other [] others found = absurd cc
+behind_either-found one other (first ∷ after) others found =
+    either-found one other first after others (is_either one other first.kind) refl found
+
+-- the tokens behind one of two signs that stands first
+pub behind_either-here : (one other : Fixed) (first : Token) (others : List Token) → HasEither one other first.kind
+    → behind_either one other (first ∷ others) ≡ Some others
+behind_either-here one other first others is = rw (test-from_HasEither one other first.kind is) refl
 
 -- ---- what stands at the front
 
@@ -140,7 +140,7 @@ given is = cc
 
 -- one more token in front
 pub in_front : {X Y : Type 0} (Spells : X → List Token → Type 0) (Spelled : Y → List Token → Type 0) (x : X) (y : Y)
-    (s : Sign) (tokens others after : List Token) → SignFirst s tokens others → Front Spells others x after
+    (s : Fixed) (tokens others after : List Token) → SignFirst s tokens others → Front Spells others x after
     → ((token : Token) (us : List Token) → HasSign s token.kind → Spells x us → Spelled y (token ∷ us))
     → Front Spelled tokens y after
 in_front Spells Spelled x y s tokens others after first at make = record {
@@ -160,17 +160,36 @@ pub append_parts : (us vs after tokens others : List Token) → tokens ≡ us ++
 append_parts us vs after tokens others is on =
     is ∙ ap (λ (l : List Token). us ++ l) on ∙ sym (append_assoc us vs after)
 
-begins-by : (s : Sign) (first : Token) (others : List Token) (test : Bool) → is_sign s first.kind ≡ test
-    → behind_sign s (first ∷ others) ≡ None → is_sign s first.kind ≡ false
+begins-by : (s : Fixed) (first : Token) (others : List Token) (test : Bool) → is_kind_of s first.kind ≡ test
+    → behind_sign s (first ∷ others) ≡ None → is_kind_of s first.kind ≡ false
 begins-by s first others true test is =
     absurd (let here = behind_sign-here s first others (HasSign-from_test s first.kind test) in cc)
 begins-by s first others false test is = test
 
 -- no sign stands first where no tokens are behind it
-pub begins-none : (s : Sign) (tokens : List Token) → behind_sign s tokens ≡ None → begins s tokens ≡ false
+pub begins-none : (s : Fixed) (tokens : List Token) → behind_sign s tokens ≡ None → begins s tokens ≡ false
 begins-none s [] is = refl
-begins-none s (first ∷ others) is = begins-by s first others (is_sign s first.kind) refl is
+begins-none s (first ∷ others) is = begins-by s first others (is_kind_of s first.kind) refl is
 
 -- a sign that stands first
-pub begins-here : (s : Sign) (tokens others : List Token) → SignFirst s tokens others → begins s tokens ≡ true
+pub begins-here : (s : Fixed) (tokens others : List Token) → SignFirst s tokens others → begins s tokens ≡ true
 begins-here s tokens others at = ap (begins s) at.parts ∙ test-from_HasSign s at.token.kind at.has
+
+-- ---- the first token, and the room below a tree
+
+pub first_of-is : (tokens : List Token) (first : Token) (others : List Token) → first_of tokens ≡ Some (first, others)
+    → tokens ≡ first ∷ others
+first_of-is [] first others is = absurd cc
+first_of-is (token ∷ more) first others is = ap (λ (x : Token × List Token). x.0 ∷ x.1) (given is)
+
+pub first_of-none : (tokens : List Token) → first_of tokens ≡ None → tokens ≡ []
+first_of-none [] none = refl
+first_of-none (token ∷ more) none = absurd cc
+
+pub lowered-is : (room inside : ℕ) → lowered room ≡ Some inside → room ≡ suc inside
+lowered-is zero inside is = absurd cc
+lowered-is (suc room) inside is = ap suc (given is)
+
+pub lowered-none : (room : ℕ) → lowered room ≡ None → room ≡ 0
+lowered-none zero none = refl
+lowered-none (suc room) none = absurd cc

@@ -10,8 +10,8 @@ use Rattle.c_tokens.specs.declared.kind.Kind.TheVariants as k
 use Rattle.c_tokens.specs.declared.token.Token.{Token}
 use Rattle.c_reader.specs.Expressions.{unary_of}
 use Rattle.c_reader.specs.ReadExpressions.{NextOperator, ◌>>=◌, Reading, next_operator, operand_by, joined_by, chosen_by, operand_at, further_at, level_at, choice_at, expression_at}
-use Rattle.c_reader.specs.declared.sign.Sign.TheVariants as sign
-use Rattle.c_reader.specs.Signs.{behind_sign}
+use Rattle.c_tokens.specs.declared.fixed.Fixed.TheVariants as fixed
+use Rattle.c_reader.specs.Fronts.{behind_sign}
 use Rattle.c_reader.proofs.Parts.{under_sign}
 use Rattle.c_reader.proofs.Equations.{operand_at-cons, level_at-is, expression_at-is, further_at-is, choice_at-is}
 
@@ -43,7 +43,7 @@ operand_at-wide token others value is least =
 
 -- what was read, without the bracket behind it
 abbrev pub closed : Reading → Reading
-closed inside = inside >>= λ x. behind_sign sign.CloseRound x.1 >>= λ after. Some (x.0, after)
+closed inside = inside >>= λ x. behind_sign fixed.CloseRound x.1 >>= λ after. Some (x.0, after)
 
 pub operand_at-bracket : (token : Token) (others : List Token) → token.kind ≡ k.OpenRound
     → operand_at (token ∷ others) ≡ closed (expression_at others)
@@ -118,14 +118,14 @@ choice_to cond e second = second >>= λ y. Some (Cond cond e y.0, y.1)
 
 -- both values of a choice, from the first
 abbrev pub choice_from : RawExpression → Reading → Reading
-choice_from cond first = first >>= λ x. behind_sign sign.Colon x.1 >>= λ after. choice_to cond x.0 (expression_at after)
+choice_from cond first = first >>= λ x. behind_sign fixed.Colon x.1 >>= λ after. choice_to cond x.0 (expression_at after)
 
-pub choice_at-asked : (cond : RawExpression) (tokens others : List Token) → behind_sign sign.Question tokens ≡ Some others
+pub choice_at-asked : (cond : RawExpression) (tokens others : List Token) → behind_sign fixed.Question tokens ≡ Some others
     → choice_at cond tokens ≡ choice_from cond (expression_at others)
 choice_at-asked cond tokens others is =
     choice_at-is cond tokens ∙ ap (λ (others : Option (List Token)). chosen_by cond tokens others expression_at) is
 
-pub choice_at-none : (cond : RawExpression) (tokens : List Token) → behind_sign sign.Question tokens ≡ None
+pub choice_at-none : (cond : RawExpression) (tokens : List Token) → behind_sign fixed.Question tokens ≡ None
     → choice_at cond tokens ≡ Some (cond, tokens)
 choice_at-none cond tokens is =
     choice_at-is cond tokens ∙ ap (λ (others : Option (List Token)). chosen_by cond tokens others expression_at) is
@@ -150,7 +150,7 @@ bracketed e others = Some (e, others)
 -- an expression in brackets
 pub reads-bracket : (tokens others after : List Token) (token : Token) (e : RawExpression) (last : Option (List Token))
     → tokens ≡ token ∷ others → token.kind ≡ k.OpenRound → expression_at others ≡ Some (e, after)
-    → last ≡ behind_sign sign.CloseRound after → operand_at tokens ≡ (last >>= bracketed e)
+    → last ≡ behind_sign fixed.CloseRound after → operand_at tokens ≡ (last >>= bracketed e)
 reads-bracket tokens others after token e last parts is inside closing =
     ap operand_at parts ∙ operand_at-bracket token others is ∙ ap closed inside
     ∙ ap (λ (found : Option (List Token)). found >>= bracketed e) (sym closing)
@@ -174,8 +174,8 @@ reads-operation level tokens others behind_it after left right at above op line 
 
 -- a choice with both values
 pub reads-choice : (tokens others behind_it after later last : List Token) (cond e f : RawExpression)
-    → level_at 1 tokens ≡ Some (cond, others) → Some behind_it ≡ behind_sign sign.Question others
-    → expression_at behind_it ≡ Some (e, after) → Some later ≡ behind_sign sign.Colon after
+    → level_at 1 tokens ≡ Some (cond, others) → Some behind_it ≡ behind_sign fixed.Question others
+    → expression_at behind_it ≡ Some (e, after) → Some later ≡ behind_sign fixed.Colon after
     → expression_at later ≡ Some (f, last) → expression_at tokens ≡ Some (Cond cond e f, last)
 reads-choice tokens others behind_it after later last cond e f is asked first colon second =
     expression_at-level tokens others cond is ∙ choice_at-asked cond others behind_it (sym asked)

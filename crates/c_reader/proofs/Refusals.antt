@@ -10,8 +10,8 @@ use Rattle.c_reader.specs.declared.fault.ReadFault.TheVariants.{Deep, Grammar, M
 use Rattle.c_reader.specs.Faults.{Refuses}
 use Rattle.c_reader.specs.Expressions.{unary_of, expression_depth}
 use Rattle.c_reader.specs.ReadExpressions.{◌>>=◌, Reading, next_operator, operand_at, further_at, level_at, choice_at, expression_at, IsDeeper}
-use Rattle.c_reader.specs.declared.sign.Sign.TheVariants as sign
-use Rattle.c_reader.specs.Signs.{behind_sign}
+use Rattle.c_tokens.specs.declared.fixed.Fixed.TheVariants as fixed
+use Rattle.c_reader.specs.Fronts.{behind_sign}
 use Rattle.c_reader.proofs.Reading.{stepped}
 use Rattle.c_reader.proofs.Equations.{level_at-is, expression_at-is}
 use Rattle.c_reader.proofs.Depths.{depth-positive, further_at-depth, choice_at-depth}
@@ -27,6 +27,12 @@ Refuses-as f Memory refused = refused
 pub handed_on : {T P Q : Type 0} → (P → Q) → (answer : Result T ReadFault) (given fault : ReadFault) → answer ≡ Err given
     → given ≡ fault → Refuses P fault → IfErr answer (Refuses Q)
 handed_on f answer given fault is same refused = rw (is, same) (Refuses-as f fault refused)
+
+-- The reason of a fault that is `Grammar` holds.
+pub grammar-by : (fault : ReadFault) (reason : Type 0) → fault ≡ Grammar → Refuses reason fault → reason
+grammar-by Deep reason is refused = absurd refused
+grammar-by Grammar reason is refused = refused
+grammar-by Memory reason is refused = absurd cc
 
 -- No expression has depth 0.
 pub deeper-zero : (room : ℕ) (reading : Reading) → room ≡ 0 → IsDeeper room reading
@@ -56,9 +62,9 @@ deeper-step room reading step go_on same deeper e others is =
 pub deeper-bracket : (room : ℕ) (token : Token) (others : List Token) → token.kind ≡ k.OpenRound
     → IsDeeper room (expression_at others) → IsDeeper room (operand_at (token ∷ others))
 deeper-bracket room token others is deeper =
-    deeper-step room (operand_at (token ∷ others)) (expression_at others) (λ x. behind_sign sign.CloseRound x.1 >>= λ after. Some (x.0, after))
+    deeper-step room (operand_at (token ∷ others)) (expression_at others) (λ x. behind_sign fixed.CloseRound x.1 >>= λ after. Some (x.0, after))
     (operand_at-bracket token others is) λ x e last found goes.
-    let parts = stepped (behind_sign sign.CloseRound x.1) (λ after. Some (x.0, after)) (e, last) goes in
+    let parts = stepped (behind_sign fixed.CloseRound x.1) (λ after. Some (x.0, after)) (e, last) goes in
     omega (arith, deeper x.0 x.1 found, same-depth (x.0, parts.0) (e, last) parts.2)
 
 pub deeper-sign : (room : ℕ) (token : Token) (others : List Token) (op : UnOp) → unary_of token.kind ≡ Some op
@@ -94,16 +100,16 @@ deeper-expression room tokens deeper =
 
 -- A choice is deeper than its three parts.
 pub deeper-choice : (room : ℕ) (tokens others behind_it : List Token) (cond : RawExpression)
-    → level_at 1 tokens ≡ Some (cond, others) → behind_sign sign.Question others ≡ Some behind_it
+    → level_at 1 tokens ≡ Some (cond, others) → behind_sign fixed.Question others ≡ Some behind_it
     → ((x y : RawExpression × List Token) (after : List Token) → expression_at behind_it ≡ Some x
-    → behind_sign sign.Colon x.1 ≡ Some after → expression_at after ≡ Some y
+    → behind_sign fixed.Colon x.1 ≡ Some after → expression_at after ≡ Some y
     → room < max (expression_depth cond) (max (expression_depth x.0) (expression_depth y.0)) + 1)
     → IsDeeper room (expression_at tokens)
 deeper-choice room tokens others behind_it cond is asked deeper =
     deeper-step room (expression_at tokens) (expression_at behind_it)
-    (λ x. behind_sign sign.Colon x.1 >>= λ after. choice_to cond x.0 (expression_at after))
+    (λ x. behind_sign fixed.Colon x.1 >>= λ after. choice_to cond x.0 (expression_at after))
     (expression_at-level tokens others cond is ∙ choice_at-asked cond others behind_it asked) λ x e last found goes.
-    let colon = stepped (behind_sign sign.Colon x.1) (λ after. choice_to cond x.0 (expression_at after)) (e, last) goes in
+    let colon = stepped (behind_sign fixed.Colon x.1) (λ after. choice_to cond x.0 (expression_at after)) (e, last) goes in
     let second = stepped (expression_at colon.0) (λ y. Some (Cond cond x.0 y.0, y.1)) (e, last) colon.2 in
     omega (
       arith,
@@ -113,20 +119,20 @@ deeper-choice room tokens others behind_it cond is asked deeper =
 
 -- No `:` stands behind the first value.
 pub deeper-no_colon : (room : ℕ) (tokens others behind_it after : List Token) (cond f : RawExpression)
-    → level_at 1 tokens ≡ Some (cond, others) → Some behind_it ≡ behind_sign sign.Question others
-    → expression_at behind_it ≡ Some (f, after) → None ≡ behind_sign sign.Colon after → IsDeeper room (expression_at tokens)
+    → level_at 1 tokens ≡ Some (cond, others) → Some behind_it ≡ behind_sign fixed.Question others
+    → expression_at behind_it ≡ Some (f, after) → None ≡ behind_sign fixed.Colon after → IsDeeper room (expression_at tokens)
 deeper-no_colon room tokens others behind_it after cond f is asked first none =
     deeper-choice room tokens others behind_it cond is (sym asked) λ x y later found colon second.
     let same : after ≡ x.1 = ap (λ (z : RawExpression × List Token). z.1) (same_Some (f, after) x (sym first ∙ found)) in
-    absurd (cc (none ∙ ap (behind_sign sign.Colon) same ∙ colon))
+    absurd (cc (none ∙ ap (behind_sign fixed.Colon) same ∙ colon))
 
 -- The second value is too deep.
 pub deeper-second : (room inside : ℕ) (tokens others behind_it after further : List Token) (cond f : RawExpression)
-    → level_at 1 tokens ≡ Some (cond, others) → Some behind_it ≡ behind_sign sign.Question others
-    → expression_at behind_it ≡ Some (f, after) → Some further ≡ behind_sign sign.Colon after → inside + 1 ≡ room
+    → level_at 1 tokens ≡ Some (cond, others) → Some behind_it ≡ behind_sign fixed.Question others
+    → expression_at behind_it ≡ Some (f, after) → Some further ≡ behind_sign fixed.Colon after → inside + 1 ≡ room
     → IsDeeper inside (expression_at further) → IsDeeper room (expression_at tokens)
 deeper-second room inside tokens others behind_it after further cond f is asked first colon below deeper =
     deeper-choice room tokens others behind_it cond is (sym asked) λ x y later found colon' second.
     let same : after ≡ x.1 = ap (λ (z : RawExpression × List Token). z.1) (same_Some (f, after) x (sym first ∙ found)) in
-    let same_later : further ≡ later = same_Some further later (colon ∙ ap (behind_sign sign.Colon) same ∙ colon') in
+    let same_later : further ≡ later = same_Some further later (colon ∙ ap (behind_sign fixed.Colon) same ∙ colon') in
     omega (arith, below, deeper y.0 y.1 (ap expression_at same_later ∙ second))

@@ -55,6 +55,17 @@ reads_sign : expression_at (line_of (k.Bang ∷ a ∷ k.Star ∷ b ∷ []))
 unfolding expression_at operand_at further_at choice_at operand_within further_within choice_within line_of a b c name_a name_b name_c
 reads_sign = refl
 
+-- Division binds as multiplication does, and a sign before its operand tighter: `a / b * c` and `-a % b`.
+reads_division : expression_at (line_of (a ∷ k.Slash ∷ b ∷ k.Star ∷ c ∷ []))
+    ≡ Some (Bin binary.Mul 1 (Bin binary.Div 1 name_a name_b) name_c, [])
+unfolding expression_at operand_at further_at choice_at operand_within further_within choice_within line_of a b c name_a name_b name_c
+reads_division = refl
+
+reads_remainder : expression_at (line_of (k.Minus ∷ a ∷ k.Percent ∷ b ∷ []))
+    ≡ Some (Bin binary.Rem 1 (Un unary.Minus name_a) name_b, [])
+unfolding expression_at operand_at further_at choice_at operand_within further_within choice_within line_of a b c name_a name_b name_c
+reads_remainder = refl
+
 -- Choices group to the right: `a ? b : c ? a : b`.
 reads_choices : expression_at (line_of (a ∷ k.Question ∷ b ∷ k.Colon ∷ c ∷ k.Question ∷ a ∷ k.Colon ∷ b ∷ []))
     ≡ Some (Cond name_a name_b (Cond name_c name_a name_b), [])

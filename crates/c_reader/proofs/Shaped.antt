@@ -19,7 +19,7 @@ use Rattle.c_reader.specs.Units.{SpellsFunction, SpellsUnit}
 
 -- ---- expressions
 
-natural : (level : ℕ) (e : RawExpression) (us : List Token) → SpellsAt level e us → HasNaturalConstants e
+pub natural : (level : ℕ) (e : RawExpression) (us : List Token) → SpellsAt level e us → HasNaturalConstants e
 natural level e us (expr.named name token is) = tt
 natural level e us (expr.constant value token is below) = omega (arith, ints)
 natural level e us (expr.bracketed opening closing _ inner opens closes spells) = natural 0 e inner spells
@@ -34,7 +34,7 @@ natural level e us (expr.alone _ _ _ below spells) = natural (suc level) e us sp
 shaped_initialiser : (value : Option RawExpression) (us : List Token) → SpellsOptional SpellsInitialiser value us
     → (e : RawExpression) → value ≡ Some e → HasNaturalConstants e
 shaped_initialiser value us decl.nothing e is = cc
-shaped_initialiser value us (decl.something _ _ (decl.initialiser inner sign vs is_sign spells)) e is =
+shaped_initialiser value us (decl.something _ _ (decl.initialiser inner sign vs is_kind_of spells)) e is =
     let same : inner ≡ e = cc in subst HasNaturalConstants same (natural 0 inner vs spells)
 
 shaped_declarator : (declared : RawDeclared) (us : List Token) → SpellsDeclarator declared us → IsShapedDeclarator declared
@@ -57,26 +57,26 @@ shaped_declaration front us (decl.declaration declarators vs ws type spells) oth
 -- ---- parts of statements
 
 shaped_simple : (front : Statement) (us : List Token) → SpellsSimple front us → KeepsShape front
-shaped_simple front us (stmt.assignment name e word sign vs is_word is_sign spells) others shaped = (natural 0 e vs spells, shaped)
-shaped_simple front us (stmt.update name op e word sign vs is_word is_sign spells) others shaped = ((tt, natural 0 e vs spells), shaped)
-shaped_simple front us (stmt.step_behind name op word sign is_word is_sign) others shaped = ((tt, omega (arith, ints)), shaped)
-shaped_simple front us (stmt.step_before name op word sign is_word is_sign) others shaped = ((tt, omega (arith, ints)), shaped)
+shaped_simple front us (stmt.assignment name e word sign vs is_word is_kind_of spells) others shaped = (natural 0 e vs spells, shaped)
+shaped_simple front us (stmt.update name op e word sign vs is_word is_kind_of spells) others shaped = ((tt, natural 0 e vs spells), shaped)
+shaped_simple front us (stmt.step_behind name op word sign is_word is_kind_of) others shaped = ((tt, omega (arith, ints)), shaped)
+shaped_simple front us (stmt.step_before name op word sign is_word is_kind_of) others shaped = ((tt, omega (arith, ints)), shaped)
 
 simple_step : (front : Statement) (us : List Token) → SpellsSimple front us → IsForStep (front tree.Nil)
-simple_step front us (stmt.assignment name e word sign vs is_word is_sign spells) = tt
-simple_step front us (stmt.update name op e word sign vs is_word is_sign spells) = tt
-simple_step front us (stmt.step_behind name op word sign is_word is_sign) = tt
-simple_step front us (stmt.step_before name op word sign is_word is_sign) = tt
+simple_step front us (stmt.assignment name e word sign vs is_word is_kind_of spells) = tt
+simple_step front us (stmt.update name op e word sign vs is_word is_kind_of spells) = tt
+simple_step front us (stmt.step_behind name op word sign is_word is_kind_of) = tt
+simple_step front us (stmt.step_before name op word sign is_word is_kind_of) = tt
 
 simple_start : (front : Statement) (us : List Token) → SpellsSimple front us → IsForStart (front tree.Nil)
-simple_start front us (stmt.assignment name e word sign vs is_word is_sign spells) = tt
-simple_start front us (stmt.update name op e word sign vs is_word is_sign spells) = tt
-simple_start front us (stmt.step_behind name op word sign is_word is_sign) = tt
-simple_start front us (stmt.step_before name op word sign is_word is_sign) = tt
+simple_start front us (stmt.assignment name e word sign vs is_word is_kind_of spells) = tt
+simple_start front us (stmt.update name op e word sign vs is_word is_kind_of spells) = tt
+simple_start front us (stmt.step_behind name op word sign is_word is_kind_of) = tt
+simple_start front us (stmt.step_before name op word sign is_word is_kind_of) = tt
 
 shaped_condition : (cond : RawCondition) (us : List Token) → SpellsCondition cond us → HasNaturalConstants cond.cond
 shaped_condition cond us (stmt.unmarked e _ spells) = natural 0 e us spells
-shaped_condition cond us (stmt.marked number e sign vs ws marks is_sign spells) = natural 0 e ws spells
+shaped_condition cond us (stmt.marked number e sign vs ws marks is_kind_of spells) = natural 0 e ws spells
 
 optional_condition : (cond : Option RawCondition) (us : List Token) → SpellsOptional SpellsCondition cond us → IsShapedCondition cond
 optional_condition cond us decl.nothing = tt

@@ -1,31 +1,30 @@
 -- What spells an assignment, a mark or a condition is read as it.
-use Rattle.std.proofs.Common.{◌≡◌, ℕ, zero, suc, pos, ◌≤◌, ◌-◌, true, false, nat_le, List, ◌∷◌, ◌++◌, Some, None, refl, ap, ◌∙◌, arith}
-use Rattle.std.proofs.lemmas.Bool.Decides.{nat_tests}
+use Rattle.std.proofs.Common.{◌≡◌, ℕ, zero, suc, pos, ◌≤◌, ◌-◌, false, List, ◌∷◌, ◌++◌, Some, None, refl, ap, ◌∙◌, arith}
 use Rattle.c_ast.specs.declared.expr.BinOp.{BinOp}
 use Rattle.c_ast.specs.RawTree as tree
 use Rattle.c_ast.specs.RawTree.{RawExpression, RawCondition}
 use Rattle.c_tokens.specs.declared.kind.Kind.{Kind}
 use Rattle.c_tokens.specs.declared.kind.Kind.TheVariants as k
 use Rattle.c_tokens.specs.declared.token.Token.{Token}
-use Rattle.c_reader.specs.declared.sign.Sign.TheVariants as sign
+use Rattle.c_tokens.specs.declared.fixed.Fixed.TheVariants as fixed
 use Rattle.c_reader.specs.Expressions.{SpellsExpression, EndsExpression, expression_depth}
 use Rattle.c_reader.specs.ReadExpressions.{◌>>=◌}
 use Rattle.c_reader.specs.Declarations.{Statement}
 use Rattle.c_reader.specs.Statements.{SpellsSimple, SpellsMark, SpellsCondition, update_of, step_of, updated}
 use Rattle.c_reader.specs.Depth.{statements_depth}
-use Rattle.c_reader.specs.Signs.{is_sign}
+use Rattle.c_tokens.specs.Fixed.{is_kind_of}
 use Rattle.c_reader.specs.ReadDeclarations.{name_by, name_at}
-use Rattle.c_reader.specs.ReadStatements.{step_at, update_by, change_at, simple_by, simple_at, constant_by, mark_at, condition_by, condition_at}
-use Rattle.c_reader.proofs.Reading.{step, behind_sign-here, test-from_HasSign}
+use Rattle.c_reader.specs.ReadStatements.{increment_at, update_by, change_at, simple_by, simple_at, constant_by, mark_at, condition_by, condition_at}
+use Rattle.c_reader.proofs.Reading.{step, behind_sign-here, behind_either-here, test-from_HasSign}
 use Rattle.c_reader.proofs.Shallow.{shallow-complete}
 use Rattle.c_reader.proofs.Depths.{depth-positive}
 use Rattle.c_reader.proofs.Firsts.{FirstIs-append, behind_sign-not, expression-first, expression-no_mark, starts_expression}
 
-update-no_assign : (kind : Kind) (op : BinOp) → update_of kind ≡ Some op → is_sign sign.Assign kind ≡ false
+update-no_assign : (kind : Kind) (op : BinOp) → update_of kind ≡ Some op → is_kind_of fixed.Assign kind ≡ false
 update-no_assign k.Assign op is = absurd cc
 update-no_assign _ op is = refl
 
-step-no_assign : (kind : Kind) (op : BinOp) → step_of kind ≡ Some op → is_sign sign.Assign kind ≡ false
+step-no_assign : (kind : Kind) (op : BinOp) → step_of kind ≡ Some op → is_kind_of fixed.Assign kind ≡ false
 step-no_assign k.Assign op is = absurd cc
 step-no_assign _ op is = refl
 
@@ -36,23 +35,24 @@ step-no_update _ op is = absurd cc
 
 -- a sign before the name
 before-by : (room : ℕ) (kind : Kind) (line : ℕ) (op : BinOp) (others : List Token) → step_of kind ≡ Some op
-    → simple_by room kind line others ≡ (name_at others >>= λ x. step_at room x.0.name x.0.line op line x.1)
+    → simple_by room kind line others ≡ (name_at others >>= λ x. increment_at room x.0.name x.0.line op line x.1)
 before-by room (k.Word name) line op others is = absurd cc
 before-by room kind line op others is =
-    ap (λ o. o >>= λ sign_op. name_at others >>= λ x. step_at room x.0.name x.0.line sign_op line x.1) is
+    ap (λ o. o >>= λ sign_op. name_at others >>= λ x. increment_at room x.0.name x.0.line sign_op line x.1) is
 
-step_at-here : (room : ℕ) (name : List ℕ) (line : ℕ) (op : BinOp) (at : ℕ) (after : List Token) → 2 ≤ room
-    → step_at room name line op at after ≡ Some (updated name line op at (tree.Num (pos 1)), after)
-unfolding step_at
-step_at-here room name line op at after two =
-    let test : nat_le 2 room ≡ true = grind (arith, nat_tests) in rw test refl
+increment_at-here : (room : ℕ) (name : List ℕ) (line : ℕ) (op : BinOp) (at : ℕ) (after : List Token) → 2 ≤ room
+    → increment_at room name line op at after ≡ Some (updated name line op at (tree.Num (pos 1)), after)
+unfolding increment_at
+increment_at-here zero name line op at after two = absurd (omega (arith, two))
+increment_at-here (suc zero) name line op at after two = absurd (omega (arith, two))
+increment_at-here (suc (suc room)) name line op at after two = refl
 
 change-assign : (room : ℕ) (name : List ℕ) (line : ℕ) (e : RawExpression) (first : Token) (us after : List Token)
     → first.kind ≡ k.Assign → SpellsExpression e us → expression_depth e ≤ room → EndsExpression after
     → change_at room name line (first ∷ us ++ after) ≡ Some (tree.Assign name line e, after)
 unfolding change_at
 change-assign room name line e first us after is spells low ends =
-    rw (test-from_HasSign sign.Assign first.kind is) (step _ (e, after)
+    rw (test-from_HasSign fixed.Assign first.kind is) (step _ (e, after)
     (shallow-complete room e us after spells ends low) refl)
 
 change-update : (room : ℕ) (name : List ℕ) (line : ℕ) (op : BinOp) (e : RawExpression) (first : Token)
@@ -72,7 +72,7 @@ unfolding change_at
 change-step room name line op first after is two =
     rw (step-no_assign first.kind op is)
     (ap (λ o. update_by room name line o (step_of first.kind) first.line after) (step-no_update first.kind op is)
-    ∙ step (λ x. step_at room name line x first.line after) op is (step_at-here room name line op first.line after two))
+    ∙ step (λ x. increment_at room name line x first.line after) op is (increment_at-here room name line op first.line after two))
 
 pub simple-complete : (s : Statement) (us after : List Token) (room : ℕ) → SpellsSimple s us
     → statements_depth (s tree.Nil) ≤ room → EndsExpression after → simple_at room (us ++ after) ≡ Some (s, after)
@@ -94,9 +94,9 @@ simple-complete _ _ after (suc room) (SpellsSimple.step_behind name op word firs
     ∙ change-step room name word.line op first after is (omega (arith, low))
 simple-complete _ _ after (suc room) (SpellsSimple.step_before name op word first named is) low ends =
     before-by room first.kind first.line op (word ∷ after) is
-    ∙ step (λ x. step_at room x.0.name x.0.line op first.line x.1) (record { name = name; line = word.line }, after)
+    ∙ step (λ x. increment_at room x.0.name x.0.line op first.line x.1) (record { name = name; line = word.line }, after)
     (ap (λ kind. name_by kind word.line after) named)
-    (step_at-here room name word.line op first.line after (omega (arith, low)))
+    (increment_at-here room name word.line op first.line after (omega (arith, low)))
 
 -- ---- marks and conditions
 
@@ -105,16 +105,16 @@ pub mark-complete : (number : ℕ) (opening constant closing : Token) (after : L
     → mark_at (opening ∷ constant ∷ closing ∷ after) ≡ Some (number, after)
 unfolding mark_at
 mark-complete number opening constant closing after opens is_constant closes =
-    step _ (constant ∷ closing ∷ after) (behind_sign-here sign.OpenRound opening (constant ∷ closing ∷ after) opens)
+    step _ (constant ∷ closing ∷ after) (behind_sign-here fixed.OpenRound opening (constant ∷ closing ∷ after) opens)
     (step _ (number, closing ∷ after) (ap (λ kind. constant_by kind (closing ∷ after)) is_constant)
-    (step _ after (behind_sign-here sign.CloseRound closing after closes) refl))
+    (step _ after (behind_sign-here fixed.CloseRound closing after closes) refl))
 
 pub condition-complete : (room : ℕ) (cond : RawCondition) (us after : List Token) → SpellsCondition cond us
     → expression_depth cond.cond ≤ room → EndsExpression after
     → condition_at room (us ++ after) ≡ Some (cond, after)
 unfolding condition_at
 condition-complete room _ us after (SpellsCondition.unmarked e _ spells) low ends =
-    ap (λ behind. condition_by room behind (us ++ after)) (behind_sign-not starts_expression sign.MarkWord (us ++ after)
+    ap (λ behind. condition_by room behind (us ++ after)) (behind_sign-not starts_expression fixed.MarkWord (us ++ after)
     expression-no_mark (FirstIs-append starts_expression us after (expression-first e us spells)))
     ∙ step _ (e, after) (shallow-complete room e us after spells ends low) refl
 condition-complete room _ _ after
@@ -122,8 +122,8 @@ condition-complete room _ _ after
     is_constant closes) is spells) low
     ends =
     ap (λ behind. condition_by room behind (word ∷ opening ∷ constant ∷ closing ∷ joint ∷ vs ++ after))
-    (behind_sign-here sign.MarkWord word (opening ∷ constant ∷ closing ∷ joint ∷ vs ++ after) is_mark)
+    (behind_sign-here fixed.MarkWord word (opening ∷ constant ∷ closing ∷ joint ∷ vs ++ after) is_mark)
     ∙ step _ (number, joint ∷ vs ++ after) (mark-complete number opening constant closing
     (joint ∷ vs ++ after) opens is_constant closes)
-    (step _ (vs ++ after) (behind_sign-here sign.Ampersand joint (vs ++ after) is)
+    (step _ (vs ++ after) (behind_either-here fixed.Amp fixed.AmpAmp joint (vs ++ after) is)
     (step _ (e, after) (shallow-complete room e vs after spells ends low) refl))

@@ -1,23 +1,23 @@
 -- What is read as a statement is spelled so, and is no deeper than its room.
-use Rattle.std.proofs.Common.{◌≡◌, ℕ, zero, suc, pos, ◌≤◌, ◌-◌, Bool, true, false, nat_le, if◌then◌else◌, List, [], ◌∷◌, ◌++◌, Option, Some, None, refl, ap, subst, ◌∙◌, arith}
-use Rattle.std.proofs.lemmas.Bool.Decides.{nat_tests}
+use Rattle.std.proofs.Common.{◌≡◌, ℕ, zero, suc, pos, ◌≤◌, ◌-◌, Bool, true, false, if◌then◌else◌, List, [], ◌∷◌, ◌++◌, Option, Some, None, refl, ap, subst, ◌∙◌, arith}
 use Rattle.c_ast.specs.declared.expr.BinOp.{BinOp}
 use Rattle.c_ast.specs.RawTree as tree
 use Rattle.c_ast.specs.RawTree.{RawCondition}
 use Rattle.c_tokens.specs.declared.kind.Kind.{Kind}
 use Rattle.c_tokens.specs.declared.kind.Kind.TheVariants as k
 use Rattle.c_tokens.specs.declared.token.Token.{Token}
-use Rattle.c_reader.specs.declared.sign.Sign.TheVariants as sign
+use Rattle.c_tokens.specs.declared.fixed.Fixed.TheVariants as fixed
 use Rattle.c_reader.specs.Expressions.{expression_depth}
 use Rattle.c_reader.specs.ReadExpressions.{◌>>=◌}
 use Rattle.c_ast.specs.declared.func.Var.{Var}
 use Rattle.c_reader.specs.Declarations.{Statement, SpellsName}
 use Rattle.c_reader.specs.Statements as spelled
 use Rattle.c_reader.specs.Statements.{update_of, step_of, updated}
-use Rattle.c_reader.specs.Signs.{is_sign, behind_sign}
+use Rattle.c_tokens.specs.Fixed.{is_kind_of}
+use Rattle.c_reader.specs.Fronts.{behind_sign, behind_either}
 use Rattle.c_reader.specs.ReadDeclarations.{shallow_at, name_at, begins_type, declaration_at}
-use Rattle.c_reader.specs.ReadStatements.{step_at, update_by, change_at, simple_by, simple_at, constant_by, constant_at, mark_at, condition_by, condition_at, start_at}
-use Rattle.c_reader.proofs.Reading.{stepped, behind_sign-found, HasSign-from_test, Front, IsSound, given, append_parts, cons_parts}
+use Rattle.c_reader.specs.ReadStatements.{increment_at, update_by, change_at, simple_by, simple_at, constant_by, constant_at, mark_at, condition_by, condition_at, start_at}
+use Rattle.c_reader.proofs.Reading.{stepped, behind_sign-found, behind_either-found, HasSign-from_test, Front, IsSound, given, append_parts, cons_parts}
 use Rattle.c_reader.proofs.Shallow.{shallow-sound}
 use Rattle.c_reader.proofs.Depths.{depth-positive}
 use Rattle.c_reader.proofs.DeclarationSoundness.{SpellsWithin, name_at-sound, declaration_at-sound}
@@ -25,19 +25,13 @@ use Rattle.c_reader.proofs.DeclarationSoundness.{SpellsWithin, name_at-sound, de
 -- ---- assignments
 
 -- `x + 1` is assigned, and there is room for it.
-stepped_at : (room : ℕ) (name : List ℕ) (line : ℕ) (op : BinOp) (at : ℕ) (tokens : List Token)
-    (read : Statement × List Token) (test : Bool) → nat_le 2 room ≡ test
-    → (if test then Some (updated name line op at (tree.Num (pos 1)), tokens) else None) ≡ Some read
+increment_at-found : (room : ℕ) (name : List ℕ) (line : ℕ) (op : BinOp) (at : ℕ) (tokens : List Token)
+    (read : Statement × List Token) → increment_at room name line op at tokens ≡ Some read
     → ((updated name line op at (tree.Num (pos 1)), tokens) ≡ read) × (2 ≤ room)
-stepped_at room name line op at tokens read true is found = (given found, grind (arith, nat_tests))
-stepped_at room name line op at tokens read false is found = absurd cc
-
-step_at-found : (room : ℕ) (name : List ℕ) (line : ℕ) (op : BinOp) (at : ℕ) (tokens : List Token)
-    (read : Statement × List Token) → step_at room name line op at tokens ≡ Some read
-    → ((updated name line op at (tree.Num (pos 1)), tokens) ≡ read) × (2 ≤ room)
-unfolding step_at
-step_at-found room name line op at tokens read found =
-    stepped_at room name line op at tokens read (nat_le 2 room) refl found
+unfolding increment_at
+increment_at-found zero name line op at tokens read found = absurd cc
+increment_at-found (suc zero) name line op at tokens read found = absurd cc
+increment_at-found (suc (suc room)) name line op at tokens read found = (given found, omega arith)
 
 abbrev SimpleFirst : ℕ → List Token → Statement × List Token → Type 0
 SimpleFirst room tokens read = Front (SpellsWithin spelled.SpellsSimple room) tokens read.0 read.1
@@ -53,13 +47,13 @@ before-by room first others after _ op _ (SpellsName.name name word named) parts
 
 before-sound : (room : ℕ) (first : Token) (others : List Token) (kind : Kind) (read : Statement × List Token)
     → first.kind ≡ kind
-    → (step_of kind >>= λ op. name_at others >>= λ x. step_at room x.0.name x.0.line op first.line x.1) ≡ Some read
+    → (step_of kind >>= λ op. name_at others >>= λ x. increment_at room x.0.name x.0.line op first.line x.1) ≡ Some read
     → SimpleFirst (suc room) (first ∷ others) read
 before-sound room first others kind read is found =
     let op = stepped (step_of kind) _ read found in
     let x = stepped (name_at others) _ read op.2 in
     let name = name_at-sound others x.0 x.1 in
-    let both = step_at-found room x.0.0.name x.0.0.line op.0 first.line x.0.1 read x.2 in
+    let both = increment_at-found room x.0.0.name x.0.0.line op.0 first.line x.0.1 read x.2 in
     subst (SimpleFirst (suc room) (first ∷ others)) both.0
     (before-by room first others x.0.1 name.front op.0 x.0.0 name.spells name.parts (ap step_of is ∙ op.1) both.1)
 
@@ -79,7 +73,7 @@ updated-sound room name word first others (Some op) step read named is_update is
       );
     })
 updated-sound room name word first others None (Some op) read named is_update is_step found =
-    let both = step_at-found room name word.line op first.line others read found in
+    let both = increment_at-found room name word.line op first.line others read found in
     subst (SimpleFirst (suc room) (word ∷ first ∷ others)) both.0 (record {
       front = word ∷ first ∷ [];
       parts = refl;
@@ -88,7 +82,7 @@ updated-sound room name word first others None (Some op) read named is_update is
 updated-sound room name word first others None None read named is_update is_step found = absurd cc
 
 assigned-sound : (room : ℕ) (name : List ℕ) (word first : Token) (others : List Token) (test : Bool)
-    (read : Statement × List Token) → word.kind ≡ k.Word name → is_sign sign.Assign first.kind ≡ test
+    (read : Statement × List Token) → word.kind ≡ k.Word name → is_kind_of fixed.Assign first.kind ≡ test
     → (if test then (shallow_at room others >>= λ x. Some (tree.Assign name word.line x.0, x.1))
     else update_by room name word.line (update_of first.kind) (step_of first.kind) first.line others) ≡ Some read
     → SimpleFirst (suc room) (word ∷ first ∷ others) read
@@ -100,7 +94,7 @@ assigned-sound room name word first others true read named is found =
       parts = ap (λ (l : List Token). word ∷ first ∷ l) value.at.parts;
       spells = (
         spelled.SpellsSimple.assignment name x.0.0 word first value.at.front named
-            (HasSign-from_test sign.Assign first.kind is)
+            (HasSign-from_test fixed.Assign first.kind is)
             value.at.spells,
         omega (arith, value.within),
       );
@@ -114,7 +108,7 @@ changed-sound : (room : ℕ) (name : List ℕ) (word : Token) (tokens : List Tok
 unfolding change_at
 changed-sound room name word [] read named found = absurd cc
 changed-sound room name word (first ∷ others) read named found =
-    assigned-sound room name word first others (is_sign sign.Assign first.kind) read named refl found
+    assigned-sound room name word first others (is_kind_of fixed.Assign first.kind) read named refl found
 
 simple-by : (room : ℕ) (first : Token) (others : List Token) (kind : Kind) (read : Statement × List Token)
     → first.kind ≡ kind → simple_by room kind first.line others ≡ Some read
@@ -151,12 +145,12 @@ pub mark_at-sound : (word : Token) (tokens : List Token) (read : ℕ × List Tok
     → mark_at tokens ≡ Some read → Front spelled.SpellsMark (word ∷ tokens) read.0 read.1
 unfolding mark_at
 mark_at-sound word tokens read is found =
-    let others = stepped (behind_sign sign.OpenRound tokens) _ read found in
+    let others = stepped (behind_sign fixed.OpenRound tokens) _ read found in
     let x = stepped (constant_at others.0) _ read others.2 in
-    let after = stepped (behind_sign sign.CloseRound x.0.1) _ read x.2 in
-    let opening = behind_sign-found sign.OpenRound tokens others.0 others.1 in
+    let after = stepped (behind_sign fixed.CloseRound x.0.1) _ read x.2 in
+    let opening = behind_sign-found fixed.OpenRound tokens others.0 others.1 in
     let number = constant_at-sound others.0 x.0 x.1 in
-    let closing = behind_sign-found sign.CloseRound x.0.1 after.0 after.1 in
+    let closing = behind_sign-found fixed.CloseRound x.0.1 after.0 after.1 in
     subst (λ r. Front spelled.SpellsMark (word ∷ tokens) r.0 r.1) (given after.2) (record {
       front = word ∷ opening.token ∷ number.token ∷ closing.token ∷ [];
       parts = cons_parts word (opening.token ∷ number.token ∷ closing.token ∷ []) after.0 (word ∷ tokens) tokens refl
@@ -171,7 +165,7 @@ abbrev pub SpellsShallowCondition : ℕ → RawCondition → List Token → Type
 SpellsShallowCondition room cond us = spelled.SpellsCondition cond us × (expression_depth cond.cond ≤ room)
 
 condition-by : (room : ℕ) (tokens : List Token) (behind : Option (List Token)) (read : RawCondition × List Token)
-    → behind_sign sign.MarkWord tokens ≡ behind → condition_by room behind tokens ≡ Some read
+    → behind_sign fixed.MarkWord tokens ≡ behind → condition_by room behind tokens ≡ Some read
     → Front (SpellsShallowCondition room) tokens read.0 read.1
 condition-by room tokens None read is found =
     let x = stepped (shallow_at room tokens) _ read found in
@@ -183,11 +177,11 @@ condition-by room tokens None read is found =
     })
 condition-by room tokens (Some others) read is found =
     let x = stepped (mark_at others) _ read found in
-    let after = stepped (behind_sign sign.Ampersand x.0.1) _ read x.2 in
+    let after = stepped (behind_either fixed.Amp fixed.AmpAmp x.0.1) _ read x.2 in
     let y = stepped (shallow_at room after.0) _ read after.2 in
-    let word = behind_sign-found sign.MarkWord tokens others is in
+    let word = behind_sign-found fixed.MarkWord tokens others is in
     let mark = mark_at-sound word.token others x.0 word.has x.1 in
-    let joint = behind_sign-found sign.Ampersand x.0.1 after.0 after.1 in
+    let joint = behind_either-found fixed.Amp fixed.AmpAmp x.0.1 after.0 after.1 in
     let value = shallow-sound room after.0 y.0 y.1 in
     subst (λ r. Front (SpellsShallowCondition room) tokens r.0 r.1) (given y.2) (record {
       front = mark.front ++ joint.token ∷ value.at.front;
@@ -203,7 +197,7 @@ condition-by room tokens (Some others) read is found =
 pub condition_at-sound : (room : ℕ) → IsSound (SpellsShallowCondition room) (condition_at room)
 unfolding condition_at
 condition_at-sound room tokens read found =
-    condition-by room tokens (behind_sign sign.MarkWord tokens) read refl found
+    condition-by room tokens (behind_sign fixed.MarkWord tokens) read refl found
 
 start-by : (room : ℕ) (tokens : List Token) (test : Bool) (read : Statement × List Token)
     → (if test then declaration_at room tokens else simple_at room tokens) ≡ Some read

@@ -6,14 +6,15 @@ use Rattle.c_ast.specs.RawView.{raw_joined, raw_one, raw_optional}
 use Rattle.c_tokens.specs.declared.kind.Kind.{Kind}
 use Rattle.c_tokens.specs.declared.kind.Kind.TheVariants as k
 use Rattle.c_tokens.specs.declared.token.Token.{Token}
-use Rattle.c_reader.specs.declared.sign.Sign.{Sign}
-use Rattle.c_reader.specs.declared.sign.Sign.TheVariants as sign
+use Rattle.c_tokens.specs.declared.fixed.Fixed.{Fixed}
+use Rattle.c_tokens.specs.declared.fixed.Fixed.TheVariants as fixed
 use Rattle.c_reader.specs.Expressions.{SpellsExpression, expression_depth}
 use Rattle.c_reader.specs.ReadExpressions.{◌>>=◌}
 use Rattle.c_reader.specs.Declarations.{Statement, SpellsOptional, SpellsDeclaration}
 use Rattle.c_reader.specs.Statements.{SpellsStatement, SpellsEntries, SpellsSimple, SpellsMark, SpellsCondition, SpellsStart, ends_open}
 use Rattle.c_reader.specs.Depth.{condition_depth, statements_depth}
-use Rattle.c_reader.specs.Signs.{is_sign, begins}
+use Rattle.c_tokens.specs.Fixed.{is_kind_of}
+use Rattle.c_reader.specs.Fronts.{begins}
 use Rattle.c_reader.specs.ReadDeclarations.{Reads, begins_type, declaration_at, optional, unless}
 use Rattle.c_reader.specs.ReadStatements.{simple_at, condition_at, start_at, if_at, while_at, do_at, head_at, for_at, ended, entry_at, entries_within, entries_by, entries_at, block_at, statement_by, statement_at}
 use Rattle.c_reader.proofs.Reading.{step, behind_sign-here, test-from_HasSign, HasSign}
@@ -28,11 +29,11 @@ use Rattle.c_reader.proofs.ListLoops.{on-by}
 
 pub ended-here : {X : Type 0} (x : X) (semicolon : Token) (after : List Token) → semicolon.kind ≡ k.Semicolon
     → ended x (semicolon ∷ after) ≡ Some (x, after)
-ended-here x semicolon after is = step _ after (behind_sign-here sign.Semicolon semicolon after is) refl
+ended-here x semicolon after is = step _ after (behind_sign-here fixed.Semicolon semicolon after is) refl
 
 -- ---- parts of the head of a `for`
 
-type-begins : (kind : Kind) → starts_type kind ≡ true → (is_sign sign.Int kind || is_sign sign.Long kind) ≡ true
+type-begins : (kind : Kind) → starts_type kind ≡ true → (is_kind_of fixed.Int kind || is_kind_of fixed.Long kind) ≡ true
 unfolding starts_type
 type-begins k.Int is = refl
 type-begins k.Long is = refl
@@ -41,7 +42,7 @@ type-begins _ is = absurd cc
 begins_type-here : (tokens : List Token) → FirstIs starts_type tokens → begins_type tokens ≡ true
 begins_type-here tokens at = ap begins_type at.parts ∙ type-begins at.first.kind at.is
 
-begins_type-not : (tokens : List Token) → begins sign.Int tokens ≡ false → begins sign.Long tokens ≡ false
+begins_type-not : (tokens : List Token) → begins fixed.Int tokens ≡ false → begins fixed.Long tokens ≡ false
     → begins_type tokens ≡ false
 begins_type-not tokens no_int no_long = rw (no_int, no_long) refl
 
@@ -57,9 +58,9 @@ start-complete s us semicolon after room (SpellsStart.simple _ _ spells) is low 
     let tokens = us ++ semicolon ∷ after in
     let first : FirstIs starts_simple tokens = FirstIs-append starts_simple us (semicolon ∷ after)
     (simple-first s us spells) in
-    let other : begins_type tokens ≡ false = begins_type-not tokens (begins-not starts_simple sign.Int tokens
+    let other : begins_type tokens ≡ false = begins_type-not tokens (begins-not starts_simple fixed.Int tokens
     simple-no_int first)
-    (begins-not starts_simple sign.Long tokens simple-no_long first) in
+    (begins-not starts_simple fixed.Long tokens simple-no_long first) in
     ap (λ (b : Bool). if b then declaration_at room tokens else simple_at room tokens) other
     ∙ simple-complete s us (semicolon ∷ after) room spells low (ends-at k.Semicolon semicolon after is refl (λ asks. cc))
 start-complete s us semicolon after room (SpellsStart.declaration _ _ spells) is low =
@@ -69,7 +70,7 @@ start-complete s us semicolon after room (SpellsStart.declaration _ _ spells) is
     ap (λ (b : Bool). if b then declaration_at room tokens else simple_at room tokens) here
     ∙ declaration-complete s us semicolon after room spells is low
 
-pub unless-complete : {X : Type 0} (Spells : X → List Token → Type 0) (item : List Token → Reads X) (s : Sign) (x : Option X)
+pub unless-complete : {X : Type 0} (Spells : X → List Token → Type 0) (item : List Token → Reads X) (s : Fixed) (x : Option X)
     (us : List Token) (closing : Token) (after : List Token) → SpellsOptional Spells x us → HasSign s closing.kind
     → ((y : X) (vs : List Token) → Spells y vs → (begins s (vs ++ closing ∷ after) ≡ false)
     × (item (vs ++ closing ∷ after) ≡ Some (y, closing ∷ after)))
@@ -91,21 +92,21 @@ shallow-optional room _ _ SpellsOptional.nothing low = SpellsOptional.nothing
 shallow-optional room _ _ (SpellsOptional.something cond us spells) low = SpellsOptional.something cond us (spells, low)
 
 condition-no_semicolon : (cond : RawCondition) (us vs : List Token) → SpellsCondition cond us
-    → begins sign.Semicolon (us ++ vs) ≡ false
+    → begins fixed.Semicolon (us ++ vs) ≡ false
 condition-no_semicolon _ us vs (SpellsCondition.unmarked e _ spells) =
-    begins-not starts_expression sign.Semicolon (us ++ vs) expression-no_semicolon
+    begins-not starts_expression fixed.Semicolon (us ++ vs) expression-no_semicolon
     (FirstIs-append starts_expression us vs (expression-first e us spells))
 condition-no_semicolon _ _ vs
     (SpellsCondition.marked _ e joint _ ws (SpellsMark.mark number word opening constant closing is_mark opens
     is_constant closes) is spells) =
-    kind-not sign.Semicolon word k.MarkWord is_mark refl
+    kind-not fixed.Semicolon word k.MarkWord is_mark refl
 
-start-first : (s : Statement) (us vs : List Token) → SpellsStart s us → begins sign.Semicolon (us ++ vs) ≡ false
+start-first : (s : Statement) (us vs : List Token) → SpellsStart s us → begins fixed.Semicolon (us ++ vs) ≡ false
 start-first s us vs (SpellsStart.simple _ _ spells) =
-    begins-not starts_simple sign.Semicolon (us ++ vs) simple-no_semicolon
+    begins-not starts_simple fixed.Semicolon (us ++ vs) simple-no_semicolon
     (FirstIs-append starts_simple us vs (simple-first s us spells))
 start-first s us vs (SpellsStart.declaration _ _ spells) =
-    begins-not starts_type sign.Semicolon (us ++ vs) type-no_semicolon
+    begins-not starts_type fixed.Semicolon (us ++ vs) type-no_semicolon
     (FirstIs-append starts_type us vs (declaration-first s us spells))
 
 head-complete : (room : ℕ) (start : Option Statement) (cond : Option RawCondition) (each : Option Statement)
@@ -119,32 +120,32 @@ head-complete room start cond each opening first second closing us vs ws after o
     spells_start spells_cond spells_each =
     let last : List Token = ws ++ closing ∷ after in
     let middle : List Token = vs ++ second ∷ last in
-    step _ (us ++ first ∷ middle) (behind_sign-here sign.OpenRound opening (us ++ first ∷ middle) opens)
+    step _ (us ++ first ∷ middle) (behind_sign-here fixed.OpenRound opening (us ++ first ∷ middle) opens)
     (step _ (start, first ∷ middle) (unless-complete (SpellsWithin SpellsStart room)
-    (start_at room) sign.Semicolon start us first middle spells_start ends_first
+    (start_at room) fixed.Semicolon start us first middle spells_start ends_first
     (λ s xs spells. (
       start-first s xs (first ∷ middle) spells.0,
       start-complete s xs first middle room spells.0
           ends_first spells.1,
     )))
-    (step _ middle (behind_sign-here sign.Semicolon first middle ends_first)
+    (step _ middle (behind_sign-here fixed.Semicolon first middle ends_first)
     (step _ (cond, second ∷ last) (unless-complete (SpellsShallowCondition room)
-    (condition_at room) sign.Semicolon cond vs second last spells_cond ends_second
+    (condition_at room) fixed.Semicolon cond vs second last spells_cond ends_second
     (λ x xs spells. (
       condition-no_semicolon x xs (second ∷ last) spells.0,
       condition-complete room x xs (second ∷ last) spells.0 spells.1
           (ends-at k.Semicolon second last ends_second refl (λ asks. cc)),
     )))
-    (step _ last (behind_sign-here sign.Semicolon second last ends_second)
+    (step _ last (behind_sign-here fixed.Semicolon second last ends_second)
     (step _ (each, closing ∷ after) (unless-complete (SpellsWithin SpellsSimple room)
-    (simple_at room) sign.CloseRound each ws closing after spells_each closes
+    (simple_at room) fixed.CloseRound each ws closing after spells_each closes
     (λ s xs spells. (
-      begins-not starts_simple sign.CloseRound (xs ++ closing ∷ after) simple-no_bracket
+      begins-not starts_simple fixed.CloseRound (xs ++ closing ∷ after) simple-no_bracket
           (FirstIs-append starts_simple xs (closing ∷ after) (simple-first s xs spells.0)),
       simple-complete s xs (closing ∷ after) room spells.0 spells.1
           (ends-at k.CloseRound closing after closes refl (λ asks. cc)),
     )))
-    (step _ after (behind_sign-here sign.CloseRound closing after closes) refl))))))
+    (step _ after (behind_sign-here fixed.CloseRound closing after closes) refl))))))
 
 -- ---- statements by their first words
 
@@ -186,10 +187,10 @@ while-complete room cond body word opening closing us vs after is opens closes s
     let tokens : List Token = us ++ closing ∷ (vs ++ after) in
     ap (λ (l : List Token). statement_at (suc room) (word ∷ opening ∷ l)) (append_assoc us (closing ∷ vs) after)
     ∙ ap (λ kind. statement_by room (statement_at room) kind word (opening ∷ tokens)) is
-    ∙ step _ tokens (behind_sign-here sign.OpenRound opening tokens opens)
+    ∙ step _ tokens (behind_sign-here fixed.OpenRound opening tokens opens)
     (step _ (cond, closing ∷ (vs ++ after)) (condition-complete room cond us (closing ∷ (vs ++ after)) spells low
     (ends-at k.CloseRound closing (vs ++ after) closes refl (λ asks. cc)))
-    (step _ (vs ++ after) (behind_sign-here sign.CloseRound closing (vs ++ after) closes)
+    (step _ (vs ++ after) (behind_sign-here fixed.CloseRound closing (vs ++ after) closes)
     (step _ (body, after) inner refl)))
 
 do-complete : (room : ℕ) (body : Statement) (cond : RawCondition) (first word opening closing semicolon : Token)
@@ -208,30 +209,30 @@ do-complete room body cond first word opening closing semicolon us vs after is i
     ap (λ (l : List Token). statement_at (suc room) (first ∷ l)) parts
     ∙ ap (λ kind. statement_by room (statement_at room) kind first (us ++ word ∷ opening ∷ (vs ++ last))) is
     ∙ step _ (body, word ∷ opening ∷ (vs ++ last)) (inner (opening ∷ (vs ++ last)))
-    (step _ (opening ∷ (vs ++ last)) (behind_sign-here sign.While word (opening ∷ (vs ++ last)) is_while)
-    (step _ (vs ++ last) (behind_sign-here sign.OpenRound opening (vs ++ last) opens)
+    (step _ (opening ∷ (vs ++ last)) (behind_sign-here fixed.While word (opening ∷ (vs ++ last)) is_while)
+    (step _ (vs ++ last) (behind_sign-here fixed.OpenRound opening (vs ++ last) opens)
     (step _ (cond, last) (condition-complete room cond vs last spells low
     (ends-at k.CloseRound closing (semicolon ∷ after) closes refl (λ asks. cc)))
-    (step _ (semicolon ∷ after) (behind_sign-here sign.CloseRound closing (semicolon ∷ after) closes)
-    (step _ after (behind_sign-here sign.Semicolon semicolon after ends) refl)))))
+    (step _ (semicolon ∷ after) (behind_sign-here fixed.CloseRound closing (semicolon ∷ after) closes)
+    (step _ after (behind_sign-here fixed.Semicolon semicolon after ends) refl)))))
 
 if-complete : (room : ℕ) (cond : RawExpression) (s : Statement) (word opening closing : Token) (us vs after : List Token)
     → word.kind ≡ k.If → opening.kind ≡ k.OpenRound → closing.kind ≡ k.CloseRound → SpellsExpression cond us
     → expression_depth cond ≤ room → statement_at room (vs ++ after) ≡ Some (s, after)
-    → begins sign.Else after ≡ false
+    → begins fixed.Else after ≡ false
     → statement_at (suc room) ((word ∷ opening ∷ (us ++ closing ∷ vs)) ++ after) ≡ Some (tree.If cond (raw_one s), after)
 unfolding statement_at if_at
 if-complete room cond s word opening closing us vs after is opens closes spells low inner none =
     let tokens : List Token = us ++ closing ∷ (vs ++ after) in
     ap (λ (l : List Token). statement_at (suc room) (word ∷ opening ∷ l)) (append_assoc us (closing ∷ vs) after)
     ∙ ap (λ kind. statement_by room (statement_at room) kind word (opening ∷ tokens)) is
-    ∙ step _ tokens (behind_sign-here sign.OpenRound opening tokens opens)
+    ∙ step _ tokens (behind_sign-here fixed.OpenRound opening tokens opens)
     (step _ (cond, closing ∷ (vs ++ after)) (shallow-complete room cond us (closing ∷ (vs ++ after)) spells
     (ends-at k.CloseRound closing (vs ++ after) closes refl (λ asks. cc)) low)
-    (step _ (vs ++ after) (behind_sign-here sign.CloseRound closing (vs ++ after) closes)
+    (step _ (vs ++ after) (behind_sign-here fixed.CloseRound closing (vs ++ after) closes)
     (step _ (s, after) inner
     (step _ (None, after) (ap (λ behind. optional behind after (statement_at room))
-    (behind_sign-none sign.Else after none)) refl))))
+    (behind_sign-none fixed.Else after none)) refl))))
 
 if_else-complete : (room : ℕ) (cond : RawExpression) (s t : Statement) (word opening closing other : Token)
     (us vs ws after : List Token) → word.kind ≡ k.If → opening.kind ≡ k.OpenRound → closing.kind ≡ k.CloseRound
@@ -249,13 +250,13 @@ if_else-complete room cond s t word opening closing other us vs ws after is open
     ∙ ap (λ (l : List Token). us ++ closing ∷ l) (append_assoc vs (other ∷ ws) after) in
     ap (λ (l : List Token). statement_at (suc room) (word ∷ opening ∷ l)) parts
     ∙ ap (λ kind. statement_by room (statement_at room) kind word (opening ∷ tokens)) is
-    ∙ step _ tokens (behind_sign-here sign.OpenRound opening tokens opens)
+    ∙ step _ tokens (behind_sign-here fixed.OpenRound opening tokens opens)
     (step _ (cond, closing ∷ back) (shallow-complete room cond us (closing ∷ back) spells
     (ends-at k.CloseRound closing back closes refl (λ asks. cc)) low)
-    (step _ back (behind_sign-here sign.CloseRound closing back closes)
+    (step _ back (behind_sign-here fixed.CloseRound closing back closes)
     (step _ (s, other ∷ rest_of) inner
     (step _ (Some t, after) (ap (λ behind. optional behind (other ∷ rest_of) (statement_at room))
-    (behind_sign-here sign.Else other rest_of is_else)
+    (behind_sign-here fixed.Else other rest_of is_else)
     ∙ step _ (t, after) second refl) refl))))
 
 -- where an assignment begins, one is read
@@ -292,14 +293,14 @@ closed_for : (kind : Bool) → kind ≡ false → kind ≡ true → ⊥
 closed_for kind shut is_open = cc
 
 entries-no_else : (entries : List Statement) (us : List Token) (closing : Token) (after : List Token)
-    → SpellsEntries entries us → closing.kind ≡ k.CloseCurly → begins sign.Else (us ++ closing ∷ after) ≡ false
-entries-no_else _ _ closing after SpellsEntries.none is = kind-not sign.Else closing k.CloseCurly is refl
+    → SpellsEntries entries us → closing.kind ≡ k.CloseCurly → begins fixed.Else (us ++ closing ∷ after) ≡ false
+entries-no_else _ _ closing after SpellsEntries.none is = kind-not fixed.Else closing k.CloseCurly is refl
 entries-no_else _ _ closing after (SpellsEntries.declaration s others semicolon us vs ends spells more_entries) is =
-    begins-not starts_type sign.Else ((us ++ semicolon ∷ vs) ++ closing ∷ after) type-no_else
+    begins-not starts_type fixed.Else ((us ++ semicolon ∷ vs) ++ closing ∷ after) type-no_else
     (FirstIs-append starts_type (us ++ semicolon ∷ vs) (closing ∷ after)
     (FirstIs-append starts_type us (semicolon ∷ vs) (declaration-first s us spells)))
 entries-no_else _ _ closing after (SpellsEntries.statement s others us vs spells more_entries) is =
-    begins-not starts_statement sign.Else ((us ++ vs) ++ closing ∷ after) statement-no_else
+    begins-not starts_statement fixed.Else ((us ++ vs) ++ closing ∷ after) statement-no_else
     (FirstIs-append starts_statement (us ++ vs) (closing ∷ after)
     (FirstIs-append starts_statement us vs (statement-first s us spells)))
 
@@ -341,7 +342,7 @@ declaration-entry room n s others semicolon closing us vs after is spells low mo
     let first : FirstIs starts_type tokens = FirstIs-append starts_type us (semicolon ∷ behind_it)
     (declaration-first s us spells) in
     ap (entries_within (entry_at room (statement_at room)) (suc n)) (append_assoc us (semicolon ∷ vs) (closing ∷ after))
-    ∙ on-by (entry_at room (statement_at room)) tokens n (behind_sign-not starts_type sign.CloseCurly tokens
+    ∙ on-by (entry_at room (statement_at room)) tokens n (behind_sign-not starts_type fixed.CloseCurly tokens
     type-no_brace first)
     ∙ step _ (s, behind_it)
     (ap (λ (b : Bool). if b then (declaration_at room tokens >>= λ x. ended x.0 x.1) else statement_at room tokens)
@@ -363,11 +364,11 @@ statement-entry room n s others closing us vs after spells read more_entries =
     (statement-first s us spells) in
     ap (entries_within (entry_at room (statement_at room)) (suc n)) (append_assoc us vs (closing ∷ after))
     ∙ on-by (entry_at room (statement_at room)) tokens n
-    (behind_sign-not starts_statement sign.CloseCurly tokens statement-no_brace first)
+    (behind_sign-not starts_statement fixed.CloseCurly tokens statement-no_brace first)
     ∙ step _ (s, behind_it)
     (ap (λ (b : Bool). if b then (declaration_at room tokens >>= λ x. ended x.0 x.1) else statement_at room tokens)
-    (begins_type-not tokens (begins-not starts_statement sign.Int tokens statement-no_int first)
-    (begins-not starts_statement sign.Long tokens statement-no_long first)) ∙ read)
+    (begins_type-not tokens (begins-not starts_statement fixed.Int tokens statement-no_int first)
+    (begins-not starts_statement fixed.Long tokens statement-no_long first)) ∙ read)
     (step _ (others, after) more_entries refl)
 
 block-complete : (room : ℕ) (entries : List Statement) (opening closing : Token) (us after : List Token)
@@ -408,7 +409,7 @@ mark-read room _ semicolon _ after is (SpellsMark.mark number word opening const
 mutual
   -- What spells a statement is read as it, where its depth leaves room and no `else` behind it belongs to it.
   pub statement-complete : (s : Statement) (us : List Token) → SpellsStatement s us → (room : ℕ) (after : List Token)
-      → statements_depth (s tree.Nil) ≤ room → (ends_open (s tree.Nil) ≡ true → begins sign.Else after ≡ false)
+      → statements_depth (s tree.Nil) ≤ room → (ends_open (s tree.Nil) ≡ true → begins fixed.Else after ≡ false)
       → statement_at room (us ++ after) ≡ Some (s, after)
   statement-complete s us spells zero after low follows = absurd (omega (arith, low, positive s us spells))
   statement-complete _ _ (SpellsStatement.block entries opening closing us is closes spells) (suc room) after low follows =
@@ -442,7 +443,7 @@ mutual
       do-complete room body cond first word opening closing semicolon us vs after is is_while opens closes ends
       spells_cond (omega (arith, low))
       (λ others. statement-complete body us spells_body room (word ∷ others) (omega (arith, low))
-      (λ is_open. kind-not sign.Else word k.While is_while refl))
+      (λ is_open. kind-not fixed.Else word k.While is_while refl))
   statement-complete _ _ (SpellsStatement.for start cond step body word opening first second closing us vs ws xs is
       opens ends_first ends_second closes spells_start spells_cond spells_step spells_body)
       (suc room) after low follows =
@@ -472,7 +473,7 @@ mutual
   entries-complete _ _ SpellsEntries.none room (suc n) closing after low enough is =
       ap (λ behind. entries_by behind (entry_at room (statement_at room) (closing ∷ after) >>= λ x.
       entries_within (entry_at room (statement_at room)) n x.1 >>= λ y. Some (x.0 ∷ y.0, y.1)))
-      (behind_sign-here sign.CloseCurly closing after is)
+      (behind_sign-here fixed.CloseCurly closing after is)
   entries-complete _ _ (SpellsEntries.declaration s others semicolon us vs ends spells more_entries) room
       (suc n) closing after
       low enough is =

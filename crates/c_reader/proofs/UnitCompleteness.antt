@@ -3,36 +3,42 @@ use Rattle.std.proofs.Common.{◌≡◌, ℕ, zero, suc, ◌<◌, ◌≤◌, max
 use Rattle.std.specs.Prelude.{option_to_list, IsErrOf, Result, Err}
 use Rattle.std.proofs.lemmas.Bool.{cases_lt}
 use Rattle.c_reader.specs.declared.fault.ReadFault.{ReadFault}
-use Rattle.c_reader.specs.declared.fault.ReadFault.TheVariants.{Deep, Grammar, Memory}
+use Rattle.c_reader.specs.declared.fault.ReadFault.TheVariants.{Grammar}
 use Rattle.c_reader.specs.Faults.{Refuses}
 use Rattle.c_ast.specs.declared.func.Var.{Var}
 use Rattle.c_ast.specs.RawTree.{RawFunction}
 use Rattle.c_ast.specs.RawView.{raw_joined}
 use Rattle.c_tokens.specs.declared.kind.Kind.TheVariants as k
 use Rattle.c_tokens.specs.declared.token.Token.{Token}
-use Rattle.c_reader.specs.declared.sign.Sign.TheVariants as sign
+use Rattle.c_tokens.specs.declared.fixed.Fixed.TheVariants as fixed
 use Rattle.c_reader.specs.ReadExpressions.{◌>>=◌}
 use Rattle.c_reader.specs.Declarations.{SpellsOptional, SpellsType, SpellsName}
 use Rattle.c_reader.specs.Units.{AreQualifiers, SpellsFunction, SpellsMarkDeclaration, SpellsUnit}
 use Rattle.c_reader.specs.Depth.{statements_depth, unit_depth}
-use Rattle.c_reader.specs.Signs.{begins}
+use Rattle.c_reader.specs.Fronts.{begins, is_either}
 use Rattle.c_reader.specs.ReadDeclarations.{name_at, behind_type}
 use Rattle.c_reader.specs.ReadStatements.{entries_at}
 use Rattle.c_reader.specs.ReadUnits.{unqualified, mark_declaration_at, function_at, item_by, item_at, items_within, unit_at}
-use Rattle.c_reader.proofs.Reading.{step, behind_sign-here, test-from_HasSign}
+use Rattle.c_reader.proofs.Refusals.{grammar-by}
+use Rattle.c_reader.proofs.Reading.{step, behind_sign-here, test-from_HasEither}
 use Rattle.c_reader.proofs.Firsts.{FirstIs, FirstIs-append, FirstIs-some, begins-not, behind_sign-not, starts_type, type-first, type-no_qualifier, starts_name, name-first, name-no_mark, name-no_int, name-no_long, name-no_bracket}
 use Rattle.c_reader.proofs.DeclarationCompleteness.{kind-not, name-complete, type-complete, parameters-complete}
 use Rattle.c_reader.proofs.StatementCompleteness.{unless-complete, entries-complete}
 
 unqualified-here : (first : Token) (others : List Token) → (first.kind ≡ k.Extern) ⊎ (first.kind ≡ k.Static)
     → unqualified (first ∷ others) ≡ unqualified others
-unqualified-here first others is = rw (test-from_HasSign sign.Qualifier first.kind is) refl
+unqualified-here first others is = rw (test-from_HasEither fixed.Extern fixed.Static first.kind is) refl
 
-unqualified-none : (tokens : List Token) → begins sign.Qualifier tokens ≡ false → unqualified tokens ≡ tokens
-unqualified-none [] is = refl
-unqualified-none (first ∷ others) is = rw is refl
+unqualified-other : (first : Token) (others : List Token) → is_either fixed.Extern fixed.Static first.kind ≡ false
+    → unqualified (first ∷ others) ≡ first ∷ others
+unqualified-other first others is = rw is refl
 
-unqualified-complete : (qualifiers tokens : List Token) → AreQualifiers qualifiers → begins sign.Qualifier tokens ≡ false
+-- no qualifier stands where a type does
+unqualified-none : (tokens : List Token) → FirstIs starts_type tokens → unqualified tokens ≡ tokens
+unqualified-none tokens at =
+    ap unqualified at.parts ∙ unqualified-other at.first at.others (type-no_qualifier at.first.kind at.is) ∙ sym at.parts
+
+unqualified-complete : (qualifiers tokens : List Token) → AreQualifiers qualifiers → FirstIs starts_type tokens
     → unqualified (qualifiers ++ tokens) ≡ tokens
 unqualified-complete [] tokens are other = unqualified-none tokens other
 unqualified-complete (first ∷ others) tokens are other =
@@ -40,12 +46,11 @@ unqualified-complete (first ∷ others) tokens are other =
 
 -- qualifiers and a type stand before the rest of an item
 typed-complete : (qualifiers us tokens : List Token) → AreQualifiers qualifiers → SpellsType us
-    → begins sign.Int tokens ≡ false → begins sign.Long tokens ≡ false
+    → begins fixed.Int tokens ≡ false → begins fixed.Long tokens ≡ false
     → behind_type (unqualified (qualifiers ++ (us ++ tokens))) ≡ Some tokens
 typed-complete qualifiers us tokens are type no_int no_long =
     ap behind_type (unqualified-complete qualifiers (us ++ tokens) are
-    (begins-not starts_type sign.Qualifier (us ++ tokens) type-no_qualifier (FirstIs-append starts_type us tokens
-    (type-first us type))))
+    (FirstIs-append starts_type us tokens (type-first us type)))
     ∙ type-complete us tokens type no_int no_long
 
 function-complete : (room : ℕ) (func : RawFunction) (us after : List Token) → SpellsFunction func us
@@ -67,28 +72,28 @@ function-complete room _ _ after
     ∙ ap (λ (l : List Token). vs ++ opening ∷ l) (append_assoc ws (closing ∷ curly ∷ (xs ++ last ∷ [])) after
     ∙ ap (λ (l : List Token). ws ++ closing ∷ curly ∷ l) (append_assoc xs (last ∷ []) after)))) in
     ap (item_at room) parts
-    ∙ step _ tokens (typed-complete qualifiers us tokens are type (begins-not starts_name sign.Int tokens name-no_int named)
-    (begins-not starts_name sign.Long tokens name-no_long named))
-    (ap (λ behind. item_by room behind tokens) (behind_sign-not starts_name sign.MarkWord tokens name-no_mark named)
+    ∙ step _ tokens (typed-complete qualifiers us tokens are type (begins-not starts_name fixed.Int tokens name-no_int named)
+    (begins-not starts_name fixed.Long tokens name-no_long named))
+    (ap (λ behind. item_by room behind tokens) (behind_sign-not starts_name fixed.MarkWord tokens name-no_mark named)
     ∙ step _ (record { name = var.name; line = var.line; params = params; body = raw_joined entries }, after)
     (step _ (var, opening ∷ head) (name-complete var vs (opening ∷ head) spells_name)
-    (step _ head (behind_sign-here sign.OpenRound opening head opens)
+    (step _ head (behind_sign-here fixed.OpenRound opening head opens)
     (step _ (params, curly ∷ block) (parameters-complete params ws closing (curly ∷ block) spells_params closes)
-    (step _ block (behind_sign-here sign.OpenCurly curly block opens_block)
+    (step _ block (behind_sign-here fixed.OpenCurly curly block opens_block)
     (step _ (entries, after) (entries-complete entries xs spells_entries room (suc (length block)) last after low
     (omega (arith, length-append xs (last ∷ after))) closes_block) refl))))) refl)
 
 name-or-bracket : (var : Option Var) (us : List Token) (closing : Token) (after : List Token)
     → SpellsOptional SpellsName var us
     → closing.kind ≡ k.CloseRound
-    → (begins sign.Int (us ++ closing ∷ after) ≡ false) × (begins sign.Long (us ++ closing ∷ after) ≡ false)
+    → (begins fixed.Int (us ++ closing ∷ after) ≡ false) × (begins fixed.Long (us ++ closing ∷ after) ≡ false)
 name-or-bracket _ _ closing after SpellsOptional.nothing is =
-    (kind-not sign.Int closing k.CloseRound is refl, kind-not sign.Long closing k.CloseRound is refl)
+    (kind-not fixed.Int closing k.CloseRound is refl, kind-not fixed.Long closing k.CloseRound is refl)
 name-or-bracket _ _ closing after (SpellsOptional.something var us spells) is =
     let named : FirstIs starts_name (us ++ closing ∷ after) = FirstIs-append starts_name us (closing ∷ after)
     (name-first var us spells) in (
-      begins-not starts_name sign.Int (us ++ closing ∷ after) name-no_int named,
-      begins-not starts_name sign.Long (us ++ closing ∷ after) name-no_long named,
+      begins-not starts_name fixed.Int (us ++ closing ∷ after) name-no_int named,
+      begins-not starts_name fixed.Long (us ++ closing ∷ after) name-no_long named,
     )
 
 mark-declaration-complete : (room : ℕ) (us after : List Token) → SpellsMarkDeclaration us
@@ -109,20 +114,20 @@ mark-declaration-complete room _ after
     ∙ ap (λ (l : List Token). vs ++ l) (append_assoc ws (closing ∷ semicolon ∷ []) after))) in
     let either = name-or-bracket var ws closing (semicolon ∷ after) spells closes in
     ap (item_at room) parts
-    ∙ step _ tokens (typed-complete qualifiers us tokens are type (kind-not sign.Int word k.MarkWord is_mark refl)
-    (kind-not sign.Long word k.MarkWord is_mark refl))
-    (ap (λ behind. item_by room behind tokens) (behind_sign-here sign.MarkWord word (opening ∷ head) is_mark)
+    ∙ step _ tokens (typed-complete qualifiers us tokens are type (kind-not fixed.Int word k.MarkWord is_mark refl)
+    (kind-not fixed.Long word k.MarkWord is_mark refl))
+    (ap (λ behind. item_by room behind tokens) (behind_sign-here fixed.MarkWord word (opening ∷ head) is_mark)
     ∙ step _ after
-    (step _ head (behind_sign-here sign.OpenRound opening head opens)
+    (step _ head (behind_sign-here fixed.OpenRound opening head opens)
     (step _ (ws ++ last) (type-complete vs (ws ++ last) inner either.0 either.1)
-    (step _ (var, last) (unless-complete SpellsName name_at sign.CloseRound var ws closing (semicolon ∷ after) spells closes
+    (step _ (var, last) (unless-complete SpellsName name_at fixed.CloseRound var ws closing (semicolon ∷ after) spells closes
     (λ y zs name. (
-      begins-not starts_name sign.CloseRound (zs ++ last) name-no_bracket
+      begins-not starts_name fixed.CloseRound (zs ++ last) name-no_bracket
           (FirstIs-append starts_name zs last (name-first y zs name)),
       name-complete y zs last name,
     )))
-    (step _ (semicolon ∷ after) (behind_sign-here sign.CloseRound closing (semicolon ∷ after) closes)
-    (behind_sign-here sign.Semicolon semicolon after ends))))) refl)
+    (step _ (semicolon ∷ after) (behind_sign-here fixed.CloseRound closing (semicolon ∷ after) closes)
+    (behind_sign-here fixed.Semicolon semicolon after ends))))) refl)
 
 -- ---- all items
 
@@ -197,11 +202,6 @@ too_deep room tokens funcs none spells = elim (cases_lt (suc room) (unit_depth f
   | inl deep ↦ deep
   | inr low ↦ absurd (let read : None ≡ Some funcs = sym none ∙ unit-complete room tokens funcs spells low in cc)
 ]
-
-grammar-by : (fault : ReadFault) (reason : Type 0) → fault ≡ Grammar → Refuses reason fault → reason
-grammar-by Deep reason is refused = absurd refused
-grammar-by Grammar reason is refused = refused
-grammar-by Memory reason is refused = absurd cc
 
 -- Where a reading of all tokens is refused as `Grammar`, what they spell is too deep.
 pub refused-deep : {X : Type 0} (room : ℕ) (tokens : List Token) (funcs : List RawFunction) (fault : ReadFault)

@@ -4,15 +4,15 @@ use Rattle.std.specs.Prelude.{option_to_list}
 use Rattle.c_ast.specs.RawTree.{RawFunction}
 use Rattle.c_tokens.specs.declared.kind.Kind.TheVariants as k
 use Rattle.c_tokens.specs.declared.token.Token.{Token}
-use Rattle.c_reader.specs.declared.sign.Sign.TheVariants as sign
+use Rattle.c_tokens.specs.declared.fixed.Fixed.TheVariants as fixed
 use Rattle.c_reader.specs.Declarations.{SpellsType, SpellsName}
 use Rattle.c_reader.specs.Units.{AreQualifiers, SpellsFunction, SpellsMarkDeclaration, SpellsUnit}
 use Rattle.c_reader.specs.Depth.{statements_depth, unit_depth}
-use Rattle.c_reader.specs.Signs.{is_sign, behind_sign, begins}
+use Rattle.c_reader.specs.Fronts.{behind_sign, begins, is_either}
 use Rattle.c_reader.specs.ReadDeclarations.{unless, name_at, behind_type, parameters_at}
 use Rattle.c_reader.specs.ReadStatements.{entries_at, statement_at}
 use Rattle.c_reader.specs.ReadUnits.{unqualified, mark_declaration_at, function_at, item_by, item_at, items_within, unit_at}
-use Rattle.c_reader.proofs.Reading.{stepped, behind_sign-found, HasSign-from_test, given, append_parts, cons_parts}
+use Rattle.c_reader.proofs.Reading.{stepped, behind_sign-found, HasEither-from_test, given, append_parts, cons_parts}
 use Rattle.c_reader.proofs.Firsts.{FirstIs-some, starts_type, type-first}
 use Rattle.c_reader.proofs.DeclarationSoundness.{name_at-sound, behind_type-sound, TypeFirst, unless-sound, parameters_at-sound}
 use Rattle.c_reader.proofs.BlockSoundness.{entries_at-sound}
@@ -24,19 +24,19 @@ record QualifiersFirst (tokens : List Token) : Type 0 where
   pub parts : tokens ≡ front ++ unqualified tokens
   pub are : AreQualifiers front
 
-unqualified-by : (first : Token) (others : List Token) (test : Bool) → is_sign sign.Qualifier first.kind ≡ test
+unqualified-by : (first : Token) (others : List Token) (test : Bool) → is_either fixed.Extern fixed.Static first.kind ≡ test
     → QualifiersFirst others → QualifiersFirst (first ∷ others)
 unqualified-by first others true is at = record {
   front = first ∷ at.front;
   parts = ap (λ (l : List Token). first ∷ l) at.parts ∙ ap (λ (l : List Token). first ∷ at.front ++ l) (rw is refl);
-  are = (HasSign-from_test sign.Qualifier first.kind is, at.are);
+  are = (HasEither-from_test fixed.Extern fixed.Static first.kind is, at.are);
 }
 unqualified-by first others false is at = record { front = []; parts = rw is refl; are = tt }
 
 unqualified-sound : (tokens : List Token) → QualifiersFirst tokens
 unqualified-sound [] = record { front = []; parts = refl; are = tt }
 unqualified-sound (first ∷ others) =
-    unqualified-by first others (is_sign sign.Qualifier first.kind) refl (unqualified-sound others)
+    unqualified-by first others (is_either fixed.Extern fixed.Static first.kind) refl (unqualified-sound others)
 
 -- The rest of a declaration of `__mark` stands behind its word, and these tokens follow.
 record MarkDeclarationFirst (word : Token) (tokens after : List Token) : Type 0 where
@@ -49,15 +49,15 @@ mark_declaration_at-sound : (word : Token) (tokens after : List Token) → word.
     → mark_declaration_at tokens ≡ Some after → MarkDeclarationFirst word tokens after
 unfolding mark_declaration_at
 mark_declaration_at-sound word tokens after is found =
-    let head = stepped (behind_sign sign.OpenRound tokens) _ after found in
+    let head = stepped (behind_sign fixed.OpenRound tokens) _ after found in
     let others = stepped (behind_type head.0) _ after head.2 in
-    let x = stepped (unless (begins sign.CloseRound others.0) others.0 name_at) _ after others.2 in
-    let last = stepped (behind_sign sign.CloseRound x.0.1) _ after x.2 in
-    let opening = behind_sign-found sign.OpenRound tokens head.0 head.1 in
+    let x = stepped (unless (begins fixed.CloseRound others.0) others.0 name_at) _ after others.2 in
+    let last = stepped (behind_sign fixed.CloseRound x.0.1) _ after x.2 in
+    let opening = behind_sign-found fixed.OpenRound tokens head.0 head.1 in
     let type = behind_type-sound head.0 others.0 others.1 in
-    let name = unless-sound SpellsName sign.CloseRound name_at name_at-sound others.0 x.0 x.1 in
-    let closing = behind_sign-found sign.CloseRound x.0.1 last.0 last.1 in
-    let semicolon = behind_sign-found sign.Semicolon last.0 after last.2 in
+    let name = unless-sound SpellsName fixed.CloseRound name_at name_at-sound others.0 x.0 x.1 in
+    let closing = behind_sign-found fixed.CloseRound x.0.1 last.0 last.1 in
+    let semicolon = behind_sign-found fixed.Semicolon last.0 after last.2 in
     let tail : List Token = closing.token ∷ semicolon.token ∷ [] in
     record {
       front = opening.token ∷ (type.front ++ (name.front ++ tail));
@@ -83,14 +83,14 @@ function_at-sound : (room : ℕ) (tokens : List Token) (read : RawFunction × Li
 unfolding function_at
 function_at-sound room tokens read found =
     let x = stepped (name_at tokens) _ read found in
-    let head = stepped (behind_sign sign.OpenRound x.0.1) _ read x.2 in
+    let head = stepped (behind_sign fixed.OpenRound x.0.1) _ read x.2 in
     let params = stepped (parameters_at head.0) _ read head.2 in
-    let block = stepped (behind_sign sign.OpenCurly params.0.1) _ read params.2 in
+    let block = stepped (behind_sign fixed.OpenCurly params.0.1) _ read params.2 in
     let body = stepped (entries_at room (statement_at room) block.0) _ read block.2 in
     let name = name_at-sound tokens x.0 x.1 in
-    let opening = behind_sign-found sign.OpenRound x.0.1 head.0 head.1 in
+    let opening = behind_sign-found fixed.OpenRound x.0.1 head.0 head.1 in
     let ps = parameters_at-sound head.0 params.0 params.1 in
-    let curly = behind_sign-found sign.OpenCurly params.0.1 block.0 block.1 in
+    let curly = behind_sign-found fixed.OpenCurly params.0.1 block.0 block.1 in
     let entries = entries_at-sound room (statement_at room) block.0 body.0 (statement_at-sound room) body.1 in
     let tail : List Token = entries.front ++ entries.closing ∷ [] in
     subst (λ r. FunctionFirst room tokens r.0 r.1) (given body.2) (record {
@@ -129,7 +129,7 @@ typed-some qualifiers us vs type =
     )
 
 item-by : (room : ℕ) (tokens others : List Token) (behind : Option (List Token)) (read : Option RawFunction × List Token)
-    → QualifiersFirst tokens → TypeFirst (unqualified tokens) others → behind_sign sign.MarkWord others ≡ behind
+    → QualifiersFirst tokens → TypeFirst (unqualified tokens) others → behind_sign fixed.MarkWord others ≡ behind
     → item_by room behind others ≡ Some read → ItemFirst room tokens read.0 read.1
 item-by room tokens others None read qualifiers type is found =
     let x = stepped (function_at room others) _ read found in
@@ -145,7 +145,7 @@ item-by room tokens others None read qualifiers type is found =
     })
 item-by room tokens others (Some behind_word) read qualifiers type is found =
     let after = stepped (mark_declaration_at behind_word) _ read found in
-    let word = behind_sign-found sign.MarkWord others behind_word is in
+    let word = behind_sign-found fixed.MarkWord others behind_word is in
     let mark = mark_declaration_at-sound word.token behind_word after.0 word.has after.1 in
     subst (λ r. ItemFirst room tokens r.0 r.1) (given after.2) (record {
       front = qualifiers.front ++ (type.front ++ word.token ∷ mark.front);
@@ -165,7 +165,7 @@ item_at-sound : (room : ℕ) (tokens : List Token) (read : Option RawFunction ×
 unfolding item_at
 item_at-sound room tokens read found =
     let others = stepped (behind_type (unqualified tokens)) _ read found in
-    item-by room tokens others.0 (behind_sign sign.MarkWord others.0) read (unqualified-sound tokens)
+    item-by room tokens others.0 (behind_sign fixed.MarkWord others.0) read (unqualified-sound tokens)
     (behind_type-sound (unqualified tokens) others.0 others.1) refl others.2
 
 depth-joined : (item : Option RawFunction) (funcs : List RawFunction) (room : ℕ) → unit_depth (option_to_list item) ≤ room

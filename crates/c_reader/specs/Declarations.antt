@@ -7,7 +7,9 @@ use Rattle.c_tokens.specs.declared.kind.Kind.TheVariants as k
 use Rattle.c_tokens.specs.declared.token.Token.{Token}
 use Rattle.c_reader.specs.Expressions.{SpellsExpression}
 
--- A statement or a declaration is seen as what it puts in front of the others of its list.
+-- A statement or a declaration is seen as what it puts in front of the others of its list, since the trees of a list are
+-- one tree. So `break;` on line 3 is the function `tree.Break 3`, and `{ break; continue; }` on that line holds the
+-- statements `tree.Break 3 (tree.Continue 3 tree.Nil)`.
 abbrev pub Statement : Type 0
 Statement = RawStatements → RawStatements
 

@@ -65,9 +65,11 @@ closes k.CloseRound = true
 closes k.CloseCurly = true
 closes _ = false
 
+-- whether the token is `(` or `{`
 abbrev pub is_opening_bracket : Token → Bool
 is_opening_bracket token = opens token.kind
 
+-- whether the token is `)` or `}`
 abbrev pub is_closing_bracket : Token → Bool
 is_closing_bracket token = closes token.kind
 

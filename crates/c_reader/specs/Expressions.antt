@@ -29,6 +29,8 @@ operator_of k.GreaterEq = Some (4, binary.GreaterEq)
 operator_of k.Plus = Some (5, binary.Add)
 operator_of k.Minus = Some (5, binary.Sub)
 operator_of k.Star = Some (6, binary.Mul)
+operator_of k.Slash = Some (6, binary.Div)
+operator_of k.Percent = Some (6, binary.Rem)
 operator_of _ = None
 
 -- The tokens spell the expression at a level: 0 is that of `? :`, then come the levels of the binary operators, 7 is that
@@ -74,3 +76,8 @@ expression_depth (Cond cond e f) = max (expression_depth cond) (max (expression_
 abbrev pub EndsExpression : List Token → Type 0
 EndsExpression [] = Unit {0}
 EndsExpression (token ∷ others) = (operator_of token.kind ≡ None) × (token.kind ≡ k.Question → ⊥)
+
+-- Two expressions that one list of tokens spells are equal.
+abbrev pub HasOneExpression : Type 0
+HasOneExpression = (tokens : List Token) (first second : RawExpression) → SpellsExpression first tokens
+    → SpellsExpression second tokens → first ≡ second

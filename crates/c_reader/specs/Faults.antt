@@ -1,4 +1,4 @@
--- Why tokens were refused.
+-- Why tokens were refused. Only proofs and the contracts of private functions cite this.
 use Rattle.c_reader.specs.declared.fault.ReadFault.{ReadFault}
 use Rattle.c_reader.specs.declared.fault.ReadFault.TheVariants.{Deep, Grammar, Memory}
 

@@ -1,4 +1,4 @@
--- What a step of reading answers.
+-- What a step of reading answers. Only proofs and the contracts of private functions cite this.
 use Rattle.std.specs.Prelude.{◌≡◌, Result, Ok, Err, Option, Some, None}
 use Rattle.c_reader.specs.declared.fault.ReadFault.{ReadFault}
 use Rattle.c_reader.specs.Faults.{Refuses}

@@ -6,7 +6,7 @@ pub mod Declarations
 pub mod Statements
 pub mod Units
 pub mod Depth
-pub mod Signs
+pub mod Fronts
 pub mod ReadDeclarations
 pub mod ReadStatements
 pub mod ReadUnits

@@ -1,4 +1,5 @@
--- Declarations and parameters at the front of tokens, by recursive descent.
+-- Declarations and parameters at the front of tokens, by recursive descent. Only proofs and the contracts of private
+-- functions cite these: `Declarations` says which tokens spell a declaration.
 use Rattle.std.specs.Prelude.{ℕ, zero, suc, Bool, true, false, ◌||◌, nat_le, if◌then◌else◌, List, [], ◌∷◌, length, Option, Some, None}
 use Rattle.c_ast.specs.declared.func.Var.{Var}
 use Rattle.c_ast.specs.RawTree as tree
@@ -6,11 +7,11 @@ use Rattle.c_ast.specs.RawTree.{RawExpression, RawDeclared}
 use Rattle.c_tokens.specs.declared.kind.Kind.{Kind}
 use Rattle.c_tokens.specs.declared.kind.Kind.TheVariants as k
 use Rattle.c_tokens.specs.declared.token.Token.{Token}
-use Rattle.c_reader.specs.declared.sign.Sign.TheVariants as sign
+use Rattle.c_tokens.specs.declared.fixed.Fixed.TheVariants as fixed
 use Rattle.c_reader.specs.Expressions.{expression_depth}
 use Rattle.c_reader.specs.ReadExpressions.{◌>>=◌, expression_at}
 use Rattle.c_reader.specs.Declarations.{Statement}
-use Rattle.c_reader.specs.Signs.{behind_sign, begins, skipped}
+use Rattle.c_reader.specs.Fronts.{first_of, lowered, behind_sign, begins, skipped}
 
 -- what is read as the first tokens, and the tokens behind it
 abbrev pub Reads : Type 0 → Type 0
@@ -37,18 +38,17 @@ name_by _ line others = None
 
 -- the name that stands first
 abbrev pub name_at : List Token → Reads Var
-name_at [] = None
-name_at (first ∷ others) = name_by first.kind first.line others
+name_at tokens = first_of tokens >>= λ x. name_by x.0.kind x.0.line x.1
 
 -- whether a type stands first
 abbrev pub begins_type : List Token → Bool
-begins_type tokens = begins sign.Int tokens || begins sign.Long tokens
+begins_type tokens = begins fixed.Int tokens || begins fixed.Long tokens
 
 -- the tokens behind a type
 unfoldable pub behind_type : List Token → Option (List Token)
 behind_type tokens =
-    if begins sign.Int tokens then behind_sign sign.Int tokens
-    else (behind_sign sign.Long tokens >>= λ others. Some (skipped sign.Int (skipped sign.Long others)))
+    if begins fixed.Int tokens then behind_sign fixed.Int tokens
+    else (behind_sign fixed.Long tokens >>= λ others. Some (skipped fixed.Int (skipped fixed.Long others)))
 
 -- a thing and those behind a comma, if one follows
 abbrev pub listed_by : {X : Type 0} → X → List Token → Option (List Token) → (List Token → Reads (List X)) → Reads (List X)
@@ -59,7 +59,7 @@ listed_by first tokens (Some behind_comma) others = others behind_comma >>= λ x
 abbrev pub listed_within : {X : Type 0} → (List Token → Reads X) → ℕ → List Token → Reads (List X)
 listed_within item zero tokens = None
 listed_within item (suc n) tokens =
-    item tokens >>= λ x. listed_by x.0 x.1 (behind_sign sign.Comma x.1) (listed_within item n)
+    item tokens >>= λ x. listed_by x.0 x.1 (behind_sign fixed.Comma x.1) (listed_within item n)
 
 -- things with a comma between two, as many as stand at the front
 unfoldable pub listed_at : {X : Type 0} → (List Token → Reads X) → List Token → Reads (List X)
@@ -68,14 +68,14 @@ listed_at item tokens = listed_within item (suc (length tokens)) tokens
 -- a declarator, where its initialiser has at most this depth
 unfoldable pub declarator_at : ℕ → List Token → Reads RawDeclared
 declarator_at room tokens =
-    name_at tokens >>= λ x. optional (behind_sign sign.Assign x.1) x.1 (shallow_at room) >>= λ y.
+    name_at tokens >>= λ x. optional (behind_sign fixed.Assign x.1) x.1 (shallow_at room) >>= λ y.
     Some (record { var = x.0; initialiser = y.0 }, y.1)
 
 -- a declaration, where its depth is at most this
 unfoldable pub declaration_at : ℕ → List Token → Reads Statement
-declaration_at zero tokens = None
-declaration_at (suc room) tokens =
-    behind_type tokens >>= λ others. listed_at (declarator_at room) others >>= λ x. Some (tree.Declare x.0, x.1)
+declaration_at room tokens =
+    lowered room >>= λ inside. behind_type tokens >>= λ others.
+    listed_at (declarator_at inside) others >>= λ x. Some (tree.Declare x.0, x.1)
 
 -- a parameter
 unfoldable pub parameter_at : List Token → Reads Var
@@ -85,8 +85,8 @@ parameter_at tokens = behind_type tokens >>= name_at
 abbrev pub parameters_by : Option (List Token) → List Token → Reads (List Var)
 parameters_by (Some others) tokens = Some ([], others)
 parameters_by None tokens =
-    listed_at parameter_at tokens >>= λ x. behind_sign sign.CloseRound x.1 >>= λ others. Some (x.0, others)
+    listed_at parameter_at tokens >>= λ x. behind_sign fixed.CloseRound x.1 >>= λ others. Some (x.0, others)
 
 -- the parameters, and the tokens behind the `)` that ends them
 unfoldable pub parameters_at : List Token → Reads (List Var)
-parameters_at tokens = parameters_by (behind_sign sign.CloseRound (skipped sign.Void tokens)) tokens
+parameters_at tokens = parameters_by (behind_sign fixed.CloseRound (skipped fixed.Void tokens)) tokens

@@ -1,12 +1,13 @@
--- The longest expression at the front of tokens, read by the levels of its operators.
+-- The longest expression at the front of tokens, read by the levels of its operators. Only proofs and the contracts of
+-- private functions cite these: `Expressions` says which tokens spell an expression.
 use Rattle.std.specs.Prelude.{◌≡◌, ℕ, suc, zero, pos, ◌<◌, ◌^◌, nat_le, nat_lt, if◌then◌else◌, List, [], ◌∷◌, length, Option, Some, None, option_and_then}
 use Rattle.c_ast.specs.RawTree.{RawExpression, Num, Named, Un, Bin, Cond}
 use Rattle.c_ast.specs.declared.expr.BinOp.{BinOp}
 use Rattle.c_tokens.specs.declared.kind.Kind.{Kind}
 use Rattle.c_tokens.specs.declared.kind.Kind.TheVariants as k
 use Rattle.c_tokens.specs.declared.token.Token.{Token}
-use Rattle.c_reader.specs.declared.sign.Sign.TheVariants as sign
-use Rattle.c_reader.specs.Signs.{behind_sign}
+use Rattle.c_tokens.specs.declared.fixed.Fixed.TheVariants as fixed
+use Rattle.c_reader.specs.Fronts.{behind_sign}
 use Rattle.c_reader.specs.Expressions.{unary_of, operator_of, expression_depth}
 
 infixl 10 ◌>>=◌
@@ -42,7 +43,7 @@ abbrev pub operand_by : Kind → ℕ → List Token → Reading → Reading → 
 operand_by (k.Word name) line others inside operand = Some (Named name line, others)
 operand_by (k.Constant value) line others inside operand =
     if nat_lt value (2 ^ 63) then Some (Num (pos value), others) else None
-operand_by k.OpenRound line others inside operand = inside >>= λ x. behind_sign sign.CloseRound x.1 >>= λ after. Some (x.0, after)
+operand_by k.OpenRound line others inside operand = inside >>= λ x. behind_sign fixed.CloseRound x.1 >>= λ after. Some (x.0, after)
 operand_by kind line others inside operand = unary_of kind >>= λ op. operand >>= λ x. Some (Un op x.0, x.1)
 
 -- An operand and the operator behind it, if there is one: then its right operand is read by `right`, and the reading goes
@@ -56,7 +57,7 @@ joined_by left tokens (Some (level, op, line, others)) right further =
 abbrev pub chosen_by : RawExpression → List Token → Option (List Token) → Reader → Reading
 chosen_by cond tokens None value = Some (cond, tokens)
 chosen_by cond tokens (Some others) value =
-    value others >>= λ x. behind_sign sign.Colon x.1 >>= λ after. value after >>= λ y. Some (Cond cond x.0 y.0, y.1)
+    value others >>= λ x. behind_sign fixed.Colon x.1 >>= λ after. value after >>= λ y. Some (Cond cond x.0 y.0, y.1)
 
 -- an operand, and what goes on from it
 abbrev pub level_by : Reader → Further → Reader
@@ -87,7 +88,7 @@ unfoldable mutual
   pub choice_within : ℕ → Further
   choice_within zero cond tokens = None
   choice_within (suc n) cond tokens =
-      chosen_by cond tokens (behind_sign sign.Question tokens)
+      chosen_by cond tokens (behind_sign fixed.Question tokens)
       (whole_by (operand_within n) (further_within n 1) (choice_within n))
 
 -- the operand at the front, and the tokens behind it

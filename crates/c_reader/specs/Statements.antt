@@ -11,11 +11,13 @@ use Rattle.c_tokens.specs.declared.token.Token.{Token}
 use Rattle.c_reader.specs.Expressions.{SpellsExpression}
 use Rattle.c_reader.specs.Declarations.{Statement, SpellsOptional, SpellsDeclaration}
 
--- the operation of `+=`, `-=` or `*=` (6.5.16.2)
+-- the operation of `+=`, `-=`, `*=`, `/=` or `%=` (6.5.16.2)
 abbrev pub update_of : Kind → Option BinOp
 update_of k.PlusAssign = Some binary.Add
 update_of k.MinusAssign = Some binary.Sub
 update_of k.StarAssign = Some binary.Mul
+update_of k.SlashAssign = Some binary.Div
+update_of k.PercentAssign = Some binary.Rem
 update_of _ = None
 
 -- the operation of `++` or `--` (6.5.2.4, 6.5.3.1)

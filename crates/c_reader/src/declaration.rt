@@ -1,60 +1,26 @@
-//! Declarations (ISO C11, 6.7) and parameters (6.7.6.3), by recursive descent. `room` is the greatest depth.
+//! Declarations (ISO C11, 6.7) and parameters (6.7.6.3), by recursive descent. `room` is the
+//! greatest depth.
 ghost use Rattle.std.specs.Prelude.{◌≡◌, map, Some, option_map};
 ghost use Rattle.c_ast.specs.RawView.{raw_expression_of, raw_declared_of, raw_put_in_front};
 ghost use Rattle.c_reader.specs.Gives.{Gives};
-ghost use Rattle.c_reader.specs.ReadDeclarations.{shallow_at, optional, name_at, begins_type, behind_type, listed_at, declarator_at, declaration_at, parameter_at, parameters_at};
-ghost use Rattle.c_reader.specs.Signs.{behind_sign};
-ghost use Rattle.c_reader.specs.declared.sign.Sign.{Sign};
+ghost use Rattle.c_reader.specs.ReadDeclarations.{shallow_at, optional, begins_type, behind_type, listed_at, declarator_at, declaration_at, parameter_at, parameters_at};
+ghost use Rattle.c_reader.specs.Fronts.{behind_sign};
+ghost use Rattle.c_tokens.specs.declared.fixed.Fixed.{Fixed};
 
 use crate::ReadFault;
-use crate::expression::{Tree, read_expression};
-use crate::sign::{Sign, begins, behind_sign, expect, skipped};
-use c_ast::{Name, RawDeclarator, RawExpr, RawStmt, Var};
-use c_tokens::{Kind, Token};
+use crate::expression::read_shallow;
+use crate::front::{begins, behind_sign, expect, lowered, skipped};
+use crate::name::read_name;
+use c_ast::{RawDeclarator, RawExpr, RawStmt, Var};
+use c_tokens::{Fixed, Token};
 use sqlite_items::Items;
 use std::alloc::Global;
-
-/// The expression at the front, where its depth is at most `room`.
-#[tactic(auto, unfolding(crate::specs::ReadDeclarations::shallow_at))]
-pub fn read_shallow<'a>(
-    alloc: Global,
-    room: u32,
-    tokens: &'a [Token],
-) -> Result<(RawExpr, &'a [Token]), ReadFault>
-    ensures { Gives (λ x. (raw_expression_of x.0, x.1.now)) result (shallow_at room tokens.now) }
-{
-    let (tree, others) = read_expression(alloc, room, tokens)?;
-    let Tree { expr, .. } = tree;
-    Ok((expr, others))
-}
-
-/// The name that stands first, its line and the tokens behind it.
-pub fn name_at(tokens: &[Token]) -> Option<(&Name, u32, &[Token])>
-    ensures { option_map (λ x. (record { name = x.0.now; line = x.1 }, x.2.now)) result ≡ name_at tokens.now }
-{
-    let (first, others) = tokens.split_first()?;
-    match &first.kind {
-        Kind::Word(name) => Some((name, first.line, others)),
-        _ => None,
-    }
-}
-
-/// The name that stands first as a variable.
-pub fn read_name(tokens: &[Token]) -> Result<(Var, &[Token]), ReadFault>
-    ensures { Gives (λ x. (x.0, x.1.now)) result (name_at tokens.now) }
-{
-    let Some((name, line, others)) = name_at(tokens) else {
-        return Err(ReadFault::Grammar);
-    };
-    let name = name.copy()?;
-    Ok((Var { name, line }, others))
-}
 
 /// Whether a type stands first.
 pub fn begins_type(tokens: &[Token]) -> bool
     ensures { result ≡ begins_type tokens.now }
 {
-    begins(Sign::Int, tokens) || begins(Sign::Long, tokens)
+    begins(Fixed::Int, tokens) || begins(Fixed::Long, tokens)
 }
 
 /// The tokens behind a type.
@@ -64,11 +30,11 @@ pub fn begins_type(tokens: &[Token]) -> bool
 pub fn expect_type(tokens: &[Token]) -> Result<&[Token], ReadFault>
     ensures { Gives (λ x. x.now) result (behind_type tokens.now) }
 {
-    if begins(Sign::Int, tokens) {
-        return expect(Sign::Int, tokens);
+    if begins(Fixed::Int, tokens) {
+        return expect(Fixed::Int, tokens);
     }
-    let others = expect(Sign::Long, tokens)?;
-    Ok(skipped(Sign::Int, skipped(Sign::Long, others)))
+    let others = expect(Fixed::Long, tokens)?;
+    Ok(skipped(Fixed::Int, skipped(Fixed::Long, others)))
 }
 
 // An initialiser, if one stands first.
@@ -78,9 +44,9 @@ fn read_initialiser<'a>(
     tokens: &'a [Token],
 ) -> Result<(Option<RawExpr>, &'a [Token]), ReadFault>
     ensures { Gives (λ x. (option_map raw_expression_of x.0, x.1.now)) result
-        (optional (behind_sign Sign.Assign tokens.now) tokens.now (shallow_at room)) }
+        (optional (behind_sign Fixed.Assign tokens.now) tokens.now (shallow_at room)) }
 {
-    let Some(others) = behind_sign(Sign::Assign, tokens) else {
+    let Some(others) = behind_sign(Fixed::Assign, tokens) else {
         return Ok((None, tokens));
     };
     let (expr, after) = read_shallow(alloc, room, others)?;
@@ -107,14 +73,15 @@ fn read_declarators<'a>(
     room: u32,
     tokens: &'a [Token],
 ) -> Result<(Items<RawDeclarator>, &'a [Token]), ReadFault>
-    ensures { Gives (λ x. (map raw_declared_of x.0, x.1.now)) result (listed_at (declarator_at room) tokens.now) }
+    ensures { Gives (λ x. (map raw_declared_of x.0, x.1.now)) result
+        (listed_at (declarator_at room) tokens.now) }
 {
     let mut made = Items::new(alloc);
     let mut others = tokens;
     loop {
         let (declarator, after) = read_declarator(alloc, room, others)?;
         made.push(declarator)?;
-        let Some(behind_comma) = behind_sign(Sign::Comma, after) else {
+        let Some(behind_comma) = behind_sign(Fixed::Comma, after) else {
             return Ok((made, after));
         };
         others = behind_comma;
@@ -132,11 +99,9 @@ pub fn read_declaration<'a>(
 ) -> Result<(RawStmt, &'a [Token]), ReadFault>
     ensures { Gives (λ x. (raw_put_in_front x.0, x.1.now)) result (declaration_at room tokens.now) }
 {
-    if room == 0 {
-        return Err(ReadFault::Grammar);
-    }
+    let inside = lowered(room)?;
     let others = expect_type(tokens)?;
-    let (declarators, after) = read_declarators(alloc, room - 1, others)?;
+    let (declarators, after) = read_declarators(alloc, inside, others)?;
     Ok((RawStmt::Declare(declarators), after))
 }
 
@@ -157,7 +122,7 @@ fn read_listed(alloc: Global, tokens: &[Token]) -> Result<(Items<Var>, &[Token])
     loop {
         let (var, after) = read_parameter(others)?;
         made.push(var)?;
-        let Some(behind_comma) = behind_sign(Sign::Comma, after) else {
+        let Some(behind_comma) = behind_sign(Fixed::Comma, after) else {
             return Ok((made, after));
         };
         others = behind_comma;
@@ -171,10 +136,10 @@ fn read_listed(alloc: Global, tokens: &[Token]) -> Result<(Items<Var>, &[Token])
 pub fn read_parameters(alloc: Global, tokens: &[Token]) -> Result<(Items<Var>, &[Token]), ReadFault>
     ensures { Gives (λ x. (x.0, x.1.now)) result (parameters_at tokens.now) }
 {
-    if let Some(others) = behind_sign(Sign::CloseRound, skipped(Sign::Void, tokens)) {
+    if let Some(others) = behind_sign(Fixed::CloseRound, skipped(Fixed::Void, tokens)) {
         return Ok((Items::new(alloc), others));
     }
     let (vars, after) = read_listed(alloc, tokens)?;
-    let others = expect(Sign::CloseRound, after)?;
+    let others = expect(Fixed::CloseRound, after)?;
     Ok((vars, others))
 }

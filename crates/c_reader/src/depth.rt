@@ -1,8 +1,11 @@
-//! How deep the brackets of tokens nest.
+//! How deep trees may be, and how deep the brackets of tokens nest.
 ghost use Rattle.std.specs.Prelude.{◌≡◌, ◌↔◌, IsTrue};
 ghost use Rattle.c_reader.specs.Depth.{is_opening_bracket, is_closing_bracket, IsDeep};
 
 use c_tokens::{Kind, Token};
+
+/// The greatest depth of a tree.
+pub const MOST_LEVELS: u32 = 400;
 
 /// By how much the openings may exceed the closings.
 const MOST_OPEN: usize = 200;

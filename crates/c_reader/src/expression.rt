@@ -4,13 +4,15 @@ ghost use Rattle.c_ast.specs.RawTree.{Num, Named, Un, Bin, Cond};
 ghost use Rattle.c_ast.specs.RawView.{raw_expression_of};
 ghost use Rattle.c_reader.specs.Expressions.{expression_depth};
 ghost use Rattle.c_reader.specs.Faults.{Refuses};
+ghost use Rattle.c_reader.specs.Gives.{Gives};
 ghost use Rattle.c_reader.specs.ReadExpressions.{next_operator, operand_at, level_at, expression_at, IsDeeper};
+ghost use Rattle.c_reader.specs.ReadDeclarations.{shallow_at};
 
 use crate::ReadFault;
+use crate::front::{behind_sign, expect, first_of, lowered, wanted};
 use crate::operators::{LOOSEST, operator_of, unary_of};
-use crate::sign::{Sign, behind_sign};
 use c_ast::{BinOp, Name, RawExpr, UnOp};
-use c_tokens::{Kind, Token};
+use c_tokens::{Fixed, Kind, Token};
 use sqlite_items::Boxed;
 use std::alloc::{AllocError, Global};
 
@@ -22,10 +24,11 @@ pub struct Tree {
     ghost measured: { depth ≡ expression_depth (raw_expression_of expr) },
 }
 
-/// A binary operator of a level or a tighter one at the front: its level, its operation, its line, and the tokens
-/// behind it.
+/// A binary operator of a level or a tighter one at the front: its level, its operation, its line,
+/// and the tokens behind it.
 fn next_operator(level: u32, tokens: &[Token]) -> Option<(u32, BinOp, u32, &[Token])>
-    ensures next { option_map (λ x. (x.0, x.1, x.2, x.3.now)) result ≡ next_operator level tokens.now }
+    ensures next { option_map (λ x. (x.0, x.1, x.2, x.3.now)) result
+        ≡ next_operator level tokens.now }
     ensures shorter { IfSome result (λ x. length x.3.now < length tokens.now) }
     ensures level { IfSome result (λ x. x.0 ≤ 6) }
 {
@@ -49,15 +52,20 @@ fn named(name: Name, line: u32) -> Tree
     }
 }
 
-fn constant(value: u64) -> Tree
-    requires { value < 2 ^ 63 }
-    ensures made { raw_expression_of result.expr ≡ Num (pos value) }
-    ensures depth { result.depth ≡ 1 }
+// A constant below 2^63.
+fn constant(value: u64) -> Option<Tree>
+    ensures made { IfSome result (λ tree. raw_expression_of tree.expr ≡ Num (pos value)) }
+    ensures depth { IfSome result (λ tree. tree.depth ≡ 1) }
+    ensures below { IfSome result (λ tree. value < 2 ^ 63) }
+    ensures wide { result ≡ None → 2 ^ 63 ≤ value }
 {
-    Tree {
+    if value > i64::MAX as u64 {
+        return None;
+    }
+    Some(Tree {
         expr: RawExpr::Num(value as i64),
         depth: 1,
-    }
+    })
 }
 
 // A sign with its operand.
@@ -136,38 +144,35 @@ fn read_operand<'a>(
     ensures shorter { IfOk result (λ x. length x.1.now < length tokens.now) }
     ensures refused { IfErr result (Refuses (IsDeeper room (operand_at tokens.now))) }
 {
-    if room == 0 {
-        return Err(ReadFault::Grammar);
-    }
-    let Some((token, others)) = tokens.split_first() else {
-        return Err(ReadFault::Grammar);
-    };
+    let below = lowered(room)?;
+    let (token, others) = first_of(tokens)?;
     match &token.kind {
         Kind::Word(name) => Ok((named(name.copy()?, token.line), others)),
         Kind::Constant(value) => {
-            if *value > i64::MAX as u64 {
-                return Err(ReadFault::Grammar);
-            }
-            Ok((constant(*value), others))
+            let tree = wanted(constant(*value))?;
+            Ok((tree, others))
         }
         Kind::OpenRound => {
             let (inside, after) = read_expression(alloc, room, others)?;
-            let Some(after) = behind_sign(Sign::CloseRound, after) else {
-                return Err(ReadFault::Grammar);
-            };
+            let after = expect(Fixed::CloseRound, after)?;
             Ok((inside, after))
         }
         kind => {
-            let Some(op) = unary_of(kind) else {
-                return Err(ReadFault::Grammar);
-            };
-            let (operand, after) = read_operand(alloc, room - 1, others)?;
+            let op = wanted(unary_of(kind))?;
+            let (operand, after) = read_operand(alloc, below, others)?;
             Ok((signed(alloc, op, operand)?, after))
         }
     }
 }
 
 // The operations of a level and of tighter ones.
+//
+// or-expr: and-expr, or or-expr "||" and-expr
+// and-expr: eq-expr, or and-expr "&&" eq-expr
+// eq-expr: rel-expr, or eq-expr ("==" | "!=") rel-expr
+// rel-expr: sum, or rel-expr ("<" | "<=" | ">" | ">=") sum
+// sum: term, or sum ("+" | "-") term
+// term: unary, or term ("*" | "/" | "%") unary
 //
 // Each right operand is of the level above its operator's, so equal levels group to the left.
 #[cycle(expression)]
@@ -193,7 +198,10 @@ fn read_level<'a>(
     Ok((left, others))
 }
 
-/// The longest expression at the front of the tokens, and the tokens behind it. Its depth is at most `room`.
+/// The longest expression at the front of the tokens, and the tokens behind it. Its depth is at
+/// most `room`.
+///
+/// expr: or-expr, or or-expr "?" expr ":" expr
 ///
 /// `Grammar`: no expression stands there, or the longest one is deeper. It is never `Deep`.
 #[cycle(expression)]
@@ -209,14 +217,26 @@ pub fn read_expression<'a>(
     ensures refused { IfErr result (Refuses (IsDeeper room (expression_at tokens.now))) }
 {
     let (cond, others) = read_level(alloc, room, LOOSEST, tokens)?;
-    let Some(others) = behind_sign(Sign::Question, others) else {
+    let Some(others) = behind_sign(Fixed::Question, others) else {
         return Ok((cond, others));
     };
     let inside = room_beside(cond.depth, room)?;
     let (first, after) = read_expression(alloc, inside, others)?;
-    let Some(after) = behind_sign(Sign::Colon, after) else {
-        return Err(ReadFault::Grammar);
-    };
+    let after = expect(Fixed::Colon, after)?;
     let (second, after) = read_expression(alloc, inside, after)?;
     Ok((chosen(alloc, cond, first, second)?, after))
+}
+
+/// The expression at the front, where its depth is at most `room`.
+#[tactic(auto, unfolding(crate::specs::ReadDeclarations::shallow_at))]
+pub fn read_shallow<'a>(
+    alloc: Global,
+    room: u32,
+    tokens: &'a [Token],
+) -> Result<(RawExpr, &'a [Token]), ReadFault>
+    ensures { Gives (λ x. (raw_expression_of x.0, x.1.now)) result (shallow_at room tokens.now) }
+{
+    let (tree, others) = read_expression(alloc, room, tokens)?;
+    let Tree { expr, .. } = tree;
+    Ok((expr, others))
 }

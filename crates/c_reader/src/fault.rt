@@ -7,7 +7,8 @@ use std::alloc::{AllocError, AllocFailed};
 /// Why tokens were not read.
 #[derive(Clone, Copy, Debug, PartialEq, Eq)]
 pub enum ReadFault {
-    /// In some prefix of the tokens the openings `(` and `{` exceed the closings `)` and `}` by more than 200.
+    /// In some prefix of the tokens the openings `(` and `{` exceed the closings `)` and `}` by
+    /// more than 200.
     Deep,
     /// It is not `Deep`, and no tree of depth at most 400 spells the tokens.
     Grammar,

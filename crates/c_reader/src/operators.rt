@@ -37,6 +37,8 @@ pub fn operator_of(kind: &Kind) -> Option<(u32, BinOp)>
         Kind::Plus => Some((5, BinOp::Add)),
         Kind::Minus => Some((5, BinOp::Sub)),
         Kind::Star => Some((6, BinOp::Mul)),
+        Kind::Slash => Some((6, BinOp::Div)),
+        Kind::Percent => Some((6, BinOp::Rem)),
         _ => None,
     }
 }

@@ -1,20 +1,23 @@
-//! Assignments (ISO C11, 6.5.16), marks and conditions, by recursive descent. `room` is the greatest depth.
+//! Assignments (ISO C11, 6.5.16), marks and conditions, by recursive descent. `room` is the
+//! greatest depth.
 ghost use Rattle.std.specs.Prelude.{◌≡◌, IfOk};
 ghost use Rattle.c_ast.specs.RawTree.{Bin};
 ghost use Rattle.c_ast.specs.RawView.{raw_expression_of, raw_condition_of, raw_put_in_front};
 ghost use Rattle.c_reader.specs.Gives.{Gives};
 ghost use Rattle.c_reader.specs.Statements.{update_of, step_of, updated};
-ghost use Rattle.c_reader.specs.ReadStatements.{step_at, change_at, simple_at, constant_at, mark_at, condition_at, start_at};
+ghost use Rattle.c_reader.specs.ReadStatements.{increment_at, change_at, simple_at, constant_at, mark_at, condition_at, start_at};
 
 use crate::ReadFault;
-use crate::declaration::{begins_type, name_at, read_declaration, read_shallow};
-use crate::sign::{Sign, behind_sign, expect, is_sign};
+use crate::declaration::{begins_type, read_declaration};
+use crate::expression::read_shallow;
+use crate::front::{behind_sign, expect, expect_either, first_of, lowered, wanted};
+use crate::name::name_at;
 use c_ast::{BinOp, Name, RawCond, RawExpr, RawStmt};
-use c_tokens::{Kind, Token};
+use c_tokens::{Fixed, Kind, Token};
 use sqlite_items::Boxed;
 use std::alloc::{AllocError, Global};
 
-// The operation of `+=`, `-=` or `*=`.
+// The operation of `+=`, `-=`, `*=`, `/=` or `%=`.
 fn update_of(kind: &Kind) -> Option<BinOp>
     ensures { result ≡ update_of kind.now }
 {
@@ -22,6 +25,8 @@ fn update_of(kind: &Kind) -> Option<BinOp>
         Kind::PlusAssign => Some(BinOp::Add),
         Kind::MinusAssign => Some(BinOp::Sub),
         Kind::StarAssign => Some(BinOp::Mul),
+        Kind::SlashAssign => Some(BinOp::Div),
+        Kind::PercentAssign => Some(BinOp::Rem),
         _ => None,
     }
 }
@@ -56,8 +61,8 @@ fn updated(
 }
 
 // `x++` and its like, where there is room.
-#[tactic(auto, unfolding(crate::specs::ReadStatements::step_at))]
-fn read_step<'a>(
+#[tactic(auto, unfolding(crate::specs::ReadStatements::increment_at))]
+fn read_increment<'a>(
     alloc: Global,
     room: u32,
     name: &Name,
@@ -67,11 +72,10 @@ fn read_step<'a>(
     tokens: &'a [Token],
 ) -> Result<(RawStmt, &'a [Token]), ReadFault>
     ensures { Gives (λ x. (raw_put_in_front x.0, x.1.now)) result
-        (step_at room name.now line op operator_line tokens.now) }
+        (increment_at room name.now line op operator_line tokens.now) }
 {
-    if room < 2 {
-        return Err(ReadFault::Grammar);
-    }
+    // `x + 1` has two levels.
+    lowered(lowered(room)?)?;
     let stmt = updated(alloc, name, line, op, operator_line, RawExpr::Num(1))?;
     Ok((stmt, tokens))
 }
@@ -85,12 +89,11 @@ fn read_change<'a>(
     line: u32,
     tokens: &'a [Token],
 ) -> Result<(RawStmt, &'a [Token]), ReadFault>
-    ensures { Gives (λ x. (raw_put_in_front x.0, x.1.now)) result (change_at room name.now line tokens.now) }
+    ensures { Gives (λ x. (raw_put_in_front x.0, x.1.now)) result
+        (change_at room name.now line tokens.now) }
 {
-    let Some((sign, others)) = tokens.split_first() else {
-        return Err(ReadFault::Grammar);
-    };
-    if is_sign(Sign::Assign, &sign.kind) {
+    let (sign, others) = first_of(tokens)?;
+    if sign.kind.is(Fixed::Assign) {
         let (expr, after) = read_shallow(alloc, room, others)?;
         let name = name.copy()?;
         return Ok((RawStmt::Assign(name, line, expr), after));
@@ -100,15 +103,14 @@ fn read_change<'a>(
         let stmt = updated(alloc, name, line, op, sign.line, expr)?;
         return Ok((stmt, after));
     }
-    let Some(op) = step_of(&sign.kind) else {
-        return Err(ReadFault::Grammar);
-    };
-    read_step(alloc, room, name, line, op, sign.line, others)
+    let op = wanted(step_of(&sign.kind))?;
+    read_increment(alloc, room, name, line, op, sign.line, others)
 }
 
 /// An assignment, without the `;` behind it.
 ///
-/// simple: name ("=" | "+=" | "-=" | "*=") expr, name ("++" | "--"), or ("++" | "--") name
+/// simple: name ("=" | "+=" | "-=" | "*=" | "/=" | "%=") expr, name ("++" | "--"), or ("++" | "--")
+/// name
 #[tactic(auto, unfolding(crate::specs::ReadStatements::simple_at))]
 pub fn read_simple<'a>(
     alloc: Global,
@@ -117,39 +119,24 @@ pub fn read_simple<'a>(
 ) -> Result<(RawStmt, &'a [Token]), ReadFault>
     ensures { Gives (λ x. (raw_put_in_front x.0, x.1.now)) result (simple_at room tokens.now) }
 {
-    if room == 0 {
-        return Err(ReadFault::Grammar);
-    }
-    let Some((first, others)) = tokens.split_first() else {
-        return Err(ReadFault::Grammar);
-    };
+    let inside = lowered(room)?;
+    let (first, others) = first_of(tokens)?;
     if let Kind::Word(name) = &first.kind {
-        return read_change(alloc, room - 1, name, first.line, others);
+        return read_change(alloc, inside, name, first.line, others);
     }
-    let Some(op) = step_of(&first.kind) else {
-        return Err(ReadFault::Grammar);
-    };
-    let Some((name, line, after)) = name_at(others) else {
-        return Err(ReadFault::Grammar);
-    };
-    read_step(alloc, room - 1, name, line, op, first.line, after)
+    let op = wanted(step_of(&first.kind))?;
+    let (name, line, after) = wanted(name_at(others))?;
+    read_increment(alloc, inside, name, line, op, first.line, after)
 }
 
 // The constant that stands first.
 fn constant_at(tokens: &[Token]) -> Result<(u64, &[Token]), ReadFault>
     ensures { Gives (λ x. (x.0, x.1.now)) result (constant_at tokens.now) }
 {
-    match tokens.split_first() {
-        Some(
-            (
-                Token {
-                    kind: Kind::Constant(value),
-                    ..
-                },
-                others,
-            ),
-        ) => Ok((*value, others)),
-        _ => Err(ReadFault::Grammar),
+    let (first, others) = first_of(tokens)?;
+    match &first.kind {
+        Kind::Constant(value) => Ok((*value, others)),
+        _ => wanted(None),
     }
 }
 
@@ -160,9 +147,9 @@ fn constant_at(tokens: &[Token]) -> Result<(u64, &[Token]), ReadFault>
 pub fn read_mark(tokens: &[Token]) -> Result<(u64, &[Token]), ReadFault>
     ensures { Gives (λ x. (x.0, x.1.now)) result (mark_at tokens.now) }
 {
-    let others = expect(Sign::OpenRound, tokens)?;
+    let others = expect(Fixed::OpenRound, tokens)?;
     let (number, others) = constant_at(others)?;
-    let after = expect(Sign::CloseRound, others)?;
+    let after = expect(Fixed::CloseRound, others)?;
     Ok((number, after))
 }
 
@@ -177,12 +164,12 @@ pub fn read_condition<'a>(
 ) -> Result<(RawCond, &'a [Token]), ReadFault>
     ensures { Gives (λ x. (raw_condition_of x.0, x.1.now)) result (condition_at room tokens.now) }
 {
-    let Some(others) = behind_sign(Sign::MarkWord, tokens) else {
+    let Some(others) = behind_sign(Fixed::MarkWord, tokens) else {
         let (cond, after) = read_shallow(alloc, room, tokens)?;
         return Ok((RawCond { mark: None, cond }, after));
     };
     let (number, others) = read_mark(others)?;
-    let others = expect(Sign::Ampersand, others)?;
+    let others = expect_either(Fixed::Amp, Fixed::AmpAmp, others)?;
     let (cond, after) = read_shallow(alloc, room, others)?;
     let mark = Some(number);
     Ok((RawCond { mark, cond }, after))

@@ -2,29 +2,32 @@
 ghost use Rattle.std.specs.Prelude.{map, option_map};
 ghost use Rattle.c_ast.specs.RawView.{raw_condition_of, raw_put_in_front};
 ghost use Rattle.c_reader.specs.Gives.{Gives};
-ghost use Rattle.c_reader.specs.Signs.{begins, behind_sign};
+ghost use Rattle.c_reader.specs.Fronts.{begins, behind_sign};
 ghost use Rattle.c_reader.specs.ReadDeclarations.{optional, unless};
 ghost use Rattle.c_reader.specs.ReadStatements.{simple_at, condition_at, start_at, if_at, while_at, do_at, head_at, for_at, ended, entry_at, entries_at, block_at, short_at, statement_at};
-ghost use Rattle.c_reader.specs.declared.sign.Sign.{Sign};
+ghost use Rattle.c_tokens.specs.declared.fixed.Fixed.{Fixed};
 
 use crate::ReadFault;
-use crate::declaration::{begins_type, read_declaration, read_shallow};
-use crate::sign::{Sign, begins, behind_sign, expect};
+use crate::declaration::{begins_type, read_declaration};
+use crate::expression::read_shallow;
+use crate::front::{begins, behind_sign, expect, wanted};
 use crate::simple::{read_condition, read_mark, read_simple, read_start};
 use c_ast::{RawCond, RawStmt};
-use c_tokens::{Kind, Token};
+use c_tokens::{Fixed, Kind, Token};
 use sqlite_items::{Boxed, Items};
 use std::alloc::Global;
 
 // The statement, where a `;` stands first.
 fn ended(stmt: RawStmt, tokens: &[Token]) -> Result<(RawStmt, &[Token]), ReadFault>
-    ensures { Gives (λ x. (raw_put_in_front x.0, x.1.now)) result (ended (raw_put_in_front stmt) tokens.now) }
+    ensures { Gives (λ x. (raw_put_in_front x.0, x.1.now)) result
+        (ended (raw_put_in_front stmt) tokens.now) }
 {
-    let others = expect(Sign::Semicolon, tokens)?;
+    let others = expect(Fixed::Semicolon, tokens)?;
     Ok((stmt, others))
 }
 
-// A statement in which no other stands: ";", "break" ";", "continue" ";", "return" expr ";", mark ";", or simple ";"
+// A statement in which no other stands: ";", "break" ";", "continue" ";", "return" expr ";", mark
+// ";", or simple ";"
 fn read_short<'a>(
     alloc: Global,
     room: u32,
@@ -33,10 +36,10 @@ fn read_short<'a>(
     ensures { Gives (λ x. (raw_put_in_front x.0, x.1.now)) result (short_at room tokens.now) }
 {
     if room == 0 {
-        return Err(ReadFault::Grammar);
+        return wanted(None);
     }
     let Some((first, others)) = tokens.split_first() else {
-        return Err(ReadFault::Grammar);
+        return wanted(None);
     };
     match &first.kind {
         Kind::Semicolon => Ok((RawStmt::Empty, others)),
@@ -58,15 +61,15 @@ fn read_short<'a>(
 }
 
 // [init]
-fn read_init<'a>(
+fn read_first_part<'a>(
     alloc: Global,
     room: u32,
     tokens: &'a [Token],
 ) -> Result<(Option<Boxed<RawStmt>>, &'a [Token]), ReadFault>
     ensures { Gives (λ x. (option_map raw_put_in_front x.0, x.1.now)) result
-        (unless (begins Sign.Semicolon tokens.now) tokens.now (start_at room)) }
+        (unless (begins Fixed.Semicolon tokens.now) tokens.now (start_at room)) }
 {
-    if begins(Sign::Semicolon, tokens) {
+    if begins(Fixed::Semicolon, tokens) {
         return Ok((None, tokens));
     }
     let (stmt, after) = read_start(alloc, room, tokens)?;
@@ -75,15 +78,15 @@ fn read_init<'a>(
 }
 
 // [cond]
-fn read_test<'a>(
+fn read_second_part<'a>(
     alloc: Global,
     room: u32,
     tokens: &'a [Token],
 ) -> Result<(Option<RawCond>, &'a [Token]), ReadFault>
     ensures { Gives (λ x. (option_map raw_condition_of x.0, x.1.now)) result
-        (unless (begins Sign.Semicolon tokens.now) tokens.now (condition_at room)) }
+        (unless (begins Fixed.Semicolon tokens.now) tokens.now (condition_at room)) }
 {
-    if begins(Sign::Semicolon, tokens) {
+    if begins(Fixed::Semicolon, tokens) {
         return Ok((None, tokens));
     }
     let (cond, after) = read_condition(alloc, room, tokens)?;
@@ -91,15 +94,15 @@ fn read_test<'a>(
 }
 
 // [simple]
-fn read_step<'a>(
+fn read_third_part<'a>(
     alloc: Global,
     room: u32,
     tokens: &'a [Token],
 ) -> Result<(Option<Boxed<RawStmt>>, &'a [Token]), ReadFault>
     ensures { Gives (λ x. (option_map raw_put_in_front x.0, x.1.now)) result
-        (unless (begins Sign.CloseRound tokens.now) tokens.now (simple_at room)) }
+        (unless (begins Fixed.CloseRound tokens.now) tokens.now (simple_at room)) }
 {
-    if begins(Sign::CloseRound, tokens) {
+    if begins(Fixed::CloseRound, tokens) {
         return Ok((None, tokens));
     }
     let (stmt, after) = read_simple(alloc, room, tokens)?;
@@ -131,13 +134,13 @@ fn read_head<'a>(
       x.1.now,
     )) result (head_at room tokens.now) }
 {
-    let head = expect(Sign::OpenRound, tokens)?;
-    let (start, others) = read_init(alloc, room, head)?;
-    let middle = expect(Sign::Semicolon, others)?;
-    let (cond, others) = read_test(alloc, room, middle)?;
-    let last = expect(Sign::Semicolon, others)?;
-    let (step, others) = read_step(alloc, room, last)?;
-    let body = expect(Sign::CloseRound, others)?;
+    let head = expect(Fixed::OpenRound, tokens)?;
+    let (start, others) = read_first_part(alloc, room, head)?;
+    let middle = expect(Fixed::Semicolon, others)?;
+    let (cond, others) = read_second_part(alloc, room, middle)?;
+    let last = expect(Fixed::Semicolon, others)?;
+    let (step, others) = read_third_part(alloc, room, last)?;
+    let body = expect(Fixed::CloseRound, others)?;
     Ok((Head { start, cond, step }, body))
 }
 
@@ -149,9 +152,9 @@ fn read_else<'a>(
     tokens: &'a [Token],
 ) -> Result<(Option<Boxed<RawStmt>>, &'a [Token]), ReadFault>
     ensures { Gives (λ x. (option_map raw_put_in_front x.0, x.1.now)) result
-        (optional (behind_sign Sign.Else tokens.now) tokens.now (statement_at room)) }
+        (optional (behind_sign Fixed.Else tokens.now) tokens.now (statement_at room)) }
 {
-    let Some(others) = behind_sign(Sign::Else, tokens) else {
+    let Some(others) = behind_sign(Fixed::Else, tokens) else {
         return Ok((None, tokens));
     };
     let (stmt, after) = read_statement(alloc, room, others)?;
@@ -167,11 +170,12 @@ fn read_if<'a>(
     room: u32,
     tokens: &'a [Token],
 ) -> Result<(RawStmt, &'a [Token]), ReadFault>
-    ensures { Gives (λ x. (raw_put_in_front x.0, x.1.now)) result (if_at room (statement_at room) tokens.now) }
+    ensures { Gives (λ x. (raw_put_in_front x.0, x.1.now)) result
+        (if_at room (statement_at room) tokens.now) }
 {
-    let head = expect(Sign::OpenRound, tokens)?;
+    let head = expect(Fixed::OpenRound, tokens)?;
     let (cond, others) = read_shallow(alloc, room, head)?;
-    let body = expect(Sign::CloseRound, others)?;
+    let body = expect(Fixed::CloseRound, others)?;
     let (first, others) = read_statement(alloc, room, body)?;
     let first = Boxed::new(alloc, first)?;
     let (second, after) = read_else(alloc, room, others)?;
@@ -186,11 +190,12 @@ fn read_while<'a>(
     room: u32,
     tokens: &'a [Token],
 ) -> Result<(RawStmt, &'a [Token]), ReadFault>
-    ensures { Gives (λ x. (raw_put_in_front x.0, x.1.now)) result (while_at room (statement_at room) tokens.now) }
+    ensures { Gives (λ x. (raw_put_in_front x.0, x.1.now)) result
+        (while_at room (statement_at room) tokens.now) }
 {
-    let head = expect(Sign::OpenRound, tokens)?;
+    let head = expect(Fixed::OpenRound, tokens)?;
     let (cond, others) = read_condition(alloc, room, head)?;
-    let others = expect(Sign::CloseRound, others)?;
+    let others = expect(Fixed::CloseRound, others)?;
     let (body, after) = read_statement(alloc, room, others)?;
     let body = Boxed::new(alloc, body)?;
     Ok((RawStmt::While(cond, body), after))
@@ -204,15 +209,16 @@ fn read_do<'a>(
     room: u32,
     tokens: &'a [Token],
 ) -> Result<(RawStmt, &'a [Token]), ReadFault>
-    ensures { Gives (λ x. (raw_put_in_front x.0, x.1.now)) result (do_at room (statement_at room) tokens.now) }
+    ensures { Gives (λ x. (raw_put_in_front x.0, x.1.now)) result
+        (do_at room (statement_at room) tokens.now) }
 {
     let (body, others) = read_statement(alloc, room, tokens)?;
     let body = Boxed::new(alloc, body)?;
-    let others = expect(Sign::While, others)?;
-    let head = expect(Sign::OpenRound, others)?;
+    let others = expect(Fixed::While, others)?;
+    let head = expect(Fixed::OpenRound, others)?;
     let (cond, others) = read_condition(alloc, room, head)?;
-    let last = expect(Sign::CloseRound, others)?;
-    let after = expect(Sign::Semicolon, last)?;
+    let last = expect(Fixed::CloseRound, others)?;
+    let after = expect(Fixed::Semicolon, last)?;
     Ok((RawStmt::Do(body, cond), after))
 }
 
@@ -224,7 +230,8 @@ fn read_for<'a>(
     room: u32,
     tokens: &'a [Token],
 ) -> Result<(RawStmt, &'a [Token]), ReadFault>
-    ensures { Gives (λ x. (raw_put_in_front x.0, x.1.now)) result (for_at room (statement_at room) tokens.now) }
+    ensures { Gives (λ x. (raw_put_in_front x.0, x.1.now)) result
+        (for_at room (statement_at room) tokens.now) }
 {
     let (head, others) = read_head(alloc, room, tokens)?;
     let (body, after) = read_statement(alloc, room, others)?;
@@ -241,7 +248,8 @@ fn read_entry<'a>(
     room: u32,
     tokens: &'a [Token],
 ) -> Result<(RawStmt, &'a [Token]), ReadFault>
-    ensures { Gives (λ x. (raw_put_in_front x.0, x.1.now)) result (entry_at room (statement_at room) tokens.now) }
+    ensures { Gives (λ x. (raw_put_in_front x.0, x.1.now)) result
+        (entry_at room (statement_at room) tokens.now) }
 {
     if begins_type(tokens) {
         let (stmt, others) = read_declaration(alloc, room, tokens)?;
@@ -265,7 +273,7 @@ pub fn read_entries<'a>(
     let mut made = Items::new(alloc);
     let mut others = tokens;
     loop {
-        if let Some(after) = behind_sign(Sign::CloseCurly, others) {
+        if let Some(after) = behind_sign(Fixed::CloseCurly, others) {
             return Ok((made, after));
         }
         let (stmt, behind) = read_entry(alloc, room, others)?;
@@ -282,13 +290,22 @@ fn read_block<'a>(
     room: u32,
     tokens: &'a [Token],
 ) -> Result<(RawStmt, &'a [Token]), ReadFault>
-    ensures { Gives (λ x. (raw_put_in_front x.0, x.1.now)) result (block_at room (statement_at room) tokens.now) }
+    ensures { Gives (λ x. (raw_put_in_front x.0, x.1.now)) result
+        (block_at room (statement_at room) tokens.now) }
 {
     let (entries, after) = read_entries(alloc, room, tokens)?;
     Ok((RawStmt::Block(entries), after))
 }
 
 // The longest statement at the front of the tokens.
+//
+// statement: block, a short statement, or one of these:
+//   "if" "(" expr ")" statement ["else" statement]
+//   "while" "(" cond ")" statement
+//   "do" statement "while" "(" cond ")" ";"
+//   "for" "(" [init] ";" [cond] ";" [simple] ")" statement
+//
+// An "else" belongs to the nearest "if" before it that has none.
 #[cycle(statement)]
 #[tactic(auto, unfolding(crate::specs::ReadStatements::statement_at))]
 fn read_statement<'a>(
@@ -299,10 +316,10 @@ fn read_statement<'a>(
     ensures { Gives (λ x. (raw_put_in_front x.0, x.1.now)) result (statement_at room tokens.now) }
 {
     if room == 0 {
-        return Err(ReadFault::Grammar);
+        return wanted(None);
     }
     let Some((first, others)) = tokens.split_first() else {
-        return Err(ReadFault::Grammar);
+        return wanted(None);
     };
     match &first.kind {
         Kind::OpenCurly => read_block(alloc, room - 1, others),

@@ -7,6 +7,7 @@ use Rattle.std.proofs.lemmas.Bool.{le-ltb, false≢true}
 use Rattle.std.proofs.lemmas.Bool.Decides.{nat_tests}
 use Rattle.c_tokens.proofs.Both.{and_first, and_second}
 use Rattle.c_tokens.specs.Bytes.{is_digit, digit_value, is_digit_in}
+use Rattle.c_tokens.specs.Tables.{suffixes}
 use Rattle.c_tokens.specs.Constants.{value_in, is_suffix, is_hex_mark, SpellsConstant, decimal, octal, hexadecimal, number_of, is_hexadecimal, constant_of}
 
 -- the length of a run that passes, where none that passes follows
@@ -70,7 +71,7 @@ picked false false r s t u e = absurd cc
 
 -- a suffix begins with l or L
 suffix-letter : (byte : ℕ) (bytes : List ℕ) → is_suffix (byte ∷ bytes) ≡ true → (byte ≡ 108) ⊎ (byte ≡ 76)
-unfolding is_suffix
+unfolding is_suffix suffixes
 suffix-letter byte bytes e =
     ⊎_elim (λ (small : eqb 108 byte ≡ true). inl (grind (arith, nat_tests)))
     (λ (great : eqb 76 byte ≡ true). inr (grind (arith, nat_tests)))

@@ -5,10 +5,9 @@ use Rattle.std.specs.List.{list_all, list_any}
 use Rattle.std.proofs.lemmas.Bool.{false≢true}
 use Rattle.std.proofs.lemmas.Bool.Decides.{nat_tests}
 use Rattle.std.proofs.lemmas.List.Folds.{list_all-append}
-use Rattle.c_tokens.specs.declared.tables.TheConstants.{SUFFIXES}
 use Rattle.c_tokens.specs.Bytes.{is_digit, is_letter, is_word_byte, digit_value, is_digit_in}
 use Rattle.c_tokens.specs.Constants.{is_suffix, is_hex_mark, SpellsConstant, decimal, octal, hexadecimal, constant_of}
-use Rattle.c_tokens.specs.Tables.{Row, operators}
+use Rattle.c_tokens.specs.Tables.{Row, operators, suffixes}
 use Rattle.c_tokens.specs.Lexemes.{Lexeme, token, constant, row_with, word_kind, Spells, word, number, operator}
 use Rattle.c_tokens.proofs.Both.{and_first, and_second}
 use Rattle.c_tokens.proofs.ConstantLaws.{constant_of-whole}
@@ -43,20 +42,20 @@ digits-words base (digit ∷ digits) few all =
 mark-word : (byte : ℕ) → is_hex_mark byte ≡ true → is_word_byte byte ≡ true
 mark-word byte e = grind (arith, nat_tests)
 
-among : {X : Type 0} (words : List X) (view : X → List ℕ) (q : List ℕ → Bool) (bytes : List ℕ)
-    → list_all (λ each. q (view each)) words ≡ true
-    → list_any (λ each. bytes_eq (view each) bytes) words ≡ true → q bytes ≡ true
-among [] view q bytes all e = absurd cc
-among (each ∷ words) view q bytes all e =
-    elim (bytes_eq (view each) bytes) as (λ b. bytes_eq (view each) bytes ≡ b
-    → (b || list_any (λ each. bytes_eq (view each) bytes) words) ≡ true → q bytes ≡ true) [
-      | true ↦ λ here any. rw (← bytes_eq-same (view each) bytes here) (and_first (q (view each)) (list_all (λ each. q (view each)) words) all)
-      | false ↦ λ here any. among words view q bytes (and_second (q (view each)) (list_all (λ each. q (view each)) words) all) any
+-- what each of some words passes, bytes that are one of them pass
+among : (words : List (List ℕ)) (q : List ℕ → Bool) (bytes : List ℕ) → list_all q words ≡ true
+    → list_any (λ each. bytes_eq each bytes) words ≡ true → q bytes ≡ true
+among [] q bytes all e = absurd cc
+among (each ∷ words) q bytes all e =
+    elim (bytes_eq each bytes) as (λ b. bytes_eq each bytes ≡ b
+    → (b || list_any (λ each. bytes_eq each bytes) words) ≡ true → q bytes ≡ true) [
+      | true ↦ λ here any. rw (← bytes_eq-same each bytes here) (and_first (q each) (list_all q words) all)
+      | false ↦ λ here any. among words q bytes (and_second (q each) (list_all q words) all) any
     ] refl e
 
 suffix-words : (suffix : List ℕ) → is_suffix suffix ≡ true → list_all is_word_byte suffix ≡ true
-unfolding is_suffix
-suffix-words suffix e = among SUFFIXES (λ each. each.now) (list_all is_word_byte) suffix refl e
+unfolding is_suffix suffixes
+suffix-words suffix e = among suffixes (list_all is_word_byte) suffix refl e
 
 both-words : (digits suffix : List ℕ) → list_all is_word_byte digits ≡ true → is_suffix suffix ≡ true
     → list_all is_word_byte (digits ++ suffix) ≡ true

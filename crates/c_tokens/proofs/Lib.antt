@@ -4,7 +4,7 @@ pub mod Behind
 pub mod ConstantLaws
 pub mod WordText
 pub mod Rows
-pub mod Listed
+pub mod FixedKinds
 pub mod LexemeLaws
 pub mod FoundLaws
 pub mod GapLaws
@@ -12,3 +12,4 @@ pub mod Ascii
 pub mod FollowLaws
 pub mod OneAnswer
 pub mod Samples
+pub mod Laws

@@ -86,6 +86,7 @@ Follow-one text place xs ys one other (token _ len kind more _ lt stands goes) o
 Follow-one text place xs ys one other (stop _ found fault lt stands e) others =
     let h = at_stop text place found fault ys other lt stands e others in (sym h.0, sym h.1)
 
+-- a text has one list of tokens or one first fault, and not both
 pub answers-one : HasOneAnswer
 answers-one text xs ys one other = Follow-one text 0 xs ys one other
 

@@ -7,7 +7,7 @@ use Rattle.c_tokens.specs.declared.gaps.Opening.TheVariants as o
 use Rattle.c_tokens.specs.Bytes.{digit_value}
 use Rattle.c_tokens.specs.Places.{line_of, column_of, is_line_front}
 use Rattle.c_tokens.specs.Constants.{is_suffix, constant_of}
-use Rattle.c_tokens.specs.Tables.{keywords, operators}
+use Rattle.c_tokens.specs.Tables.{keywords, operators, suffixes}
 use Rattle.c_tokens.specs.Lexemes.{word_kind}
 use Rattle.c_tokens.specs.Gaps.{is_include, opening_of, line_len}
 use Rattle.c_tokens.specs.Scanned.{lexeme_found}
@@ -31,19 +31,19 @@ front_return = refl
 
 -- Constants have a base and a suffix.
 constant_decimal : constant_of (codes "120LL") ≡ Some 120
-unfolding constant_of digit_value is_suffix
+unfolding constant_of digit_value is_suffix suffixes
 constant_decimal = refl
 
 constant_octal : (constant_of (codes "017") ≡ Some 15) × (constant_of (codes "08") ≡ None)
-unfolding constant_of digit_value is_suffix
+unfolding constant_of digit_value is_suffix suffixes
 constant_octal = (refl, refl)
 
 constant_hexadecimal : (constant_of (codes "0Xfl") ≡ Some 15) × (constant_of (codes "0x") ≡ None)
-unfolding constant_of digit_value is_suffix
+unfolding constant_of digit_value is_suffix suffixes
 constant_hexadecimal = (refl, refl)
 
 constant_suffix : (constant_of (codes "5u") ≡ None) × (constant_of (codes "1lL") ≡ None)
-unfolding constant_of digit_value is_suffix
+unfolding constant_of digit_value is_suffix suffixes
 constant_suffix = (refl, refl)
 
 -- Words are keywords, the mark word or names.
@@ -60,6 +60,12 @@ operator_longest : (lexeme_found (codes "<=b") ≡ t.Token k.LessEq 2) × (lexem
 unfolding lexeme_found operators
 operator_longest = (refl, refl)
 
+-- division's operators, behind which no comment begins
+operator_division : (lexeme_found (codes "/ /") ≡ t.Token k.Slash 1) × (lexeme_found (codes "/=b") ≡ t.Token k.SlashAssign 2)
+    × (lexeme_found (codes "%b") ≡ t.Token k.Percent 1) × (lexeme_found (codes "%=b") ≡ t.Token k.PercentAssign 2)
+unfolding lexeme_found operators
+operator_division = (refl, refl, refl, refl)
+
 operator_percent : (lexeme_found (codes "%:%:") ≡ t.Unsupported 4) × (lexeme_found (codes "%:%") ≡ t.Unsupported 2)
 unfolding lexeme_found operators
 operator_percent = (refl, refl)
@@ -70,7 +76,7 @@ operator_none = refl
 
 -- A constant ends where a token may begin.
 constant_place : (lexeme_found (codes "0xE+1") ≡ t.Token (k.Constant 14) 3) × (lexeme_found (codes "1.5") ≡ t.NoToken)
-unfolding lexeme_found constant_of digit_value is_suffix
+unfolding lexeme_found constant_of digit_value is_suffix suffixes
 constant_place = (refl, refl)
 
 -- What begins at a place.

@@ -10,9 +10,11 @@ is_white byte = byte == 32 || (nat_le 9 byte && nat_le byte 13)
 abbrev pub is_blank : ℕ → Bool
 is_blank byte = byte == 32 || byte == 9
 
+-- the byte at which a line ends
 abbrev pub is_newline : ℕ → Bool
 is_newline byte = byte == 10
 
+-- a decimal digit
 abbrev pub is_digit : ℕ → Bool
 is_digit byte = nat_le 48 byte && nat_le byte 57
 

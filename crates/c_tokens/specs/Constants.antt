@@ -1,7 +1,7 @@
 -- Which bytes are a constant, and of which value (ISO C11, 6.4.4.1).
 use Rattle.std.specs.Prelude.{◌≡◌, ◌≢◌, ℕ, ◌+◌, ◌*◌, Bool, true, ◌&&◌, ◌||◌, ◌==◌, if◌then◌else◌, List, [], ◌∷◌, ◌++◌, Option, Some, None, take, drop, slice_index, bytes_eq}
 use Rattle.std.specs.List.{list_any, list_all, prefix_len}
-use Rattle.c_tokens.specs.declared.tables.TheConstants.{SUFFIXES}
+use Rattle.c_tokens.specs.Tables.{suffixes}
 use Rattle.c_tokens.specs.Bytes.{is_digit, digit_value, is_digit_in}
 
 -- the value of more digits of a base, behind a value
@@ -13,9 +13,9 @@ value_from base value (digit ∷ digits) = value_from base (value * base + digit
 abbrev pub value_in : ℕ → List ℕ → ℕ
 value_in base digits = value_from base 0 digits
 
--- whether the bytes are a suffix: nothing, or one for the type `long` or `long long`
+-- whether the bytes are a suffix
 unfoldable pub is_suffix : List ℕ → Bool
-is_suffix bytes = list_any (λ each. bytes_eq each.now bytes) SUFFIXES
+is_suffix bytes = list_any (λ suffix. bytes_eq suffix bytes) suffixes
 
 -- the letter of a hexadecimal prefix: x or X
 abbrev pub is_hex_mark : ℕ → Bool

@@ -10,6 +10,7 @@ use Rattle.c_tokens.specs.Tables.{Row, keywords, operators}
 use Rattle.c_tokens.specs.Bytes.{is_letter, is_word_byte}
 use Rattle.c_tokens.specs.Constants.{SpellsConstant}
 
+-- A lexeme is what the standard calls a token (6.4), of this profile or not.
 pub data Lexeme : Type 0 where
   -- a keyword, a name or an operator, with its kind where the profile has it
   token : Option Kind → Lexeme

@@ -1,7 +1,8 @@
 pub mod Bytes
 pub mod Places
-pub mod Constants
+pub mod Fixed
 pub mod Tables
+pub mod Constants
 pub mod Lexemes
 pub mod Scanned
 pub mod Gaps

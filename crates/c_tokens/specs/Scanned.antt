@@ -1,4 +1,5 @@
--- What the program answers for a place, as functions of the text.
+-- What the program answers for a place, as functions of the text. No contract of a public function cites these: proofs
+-- show that they answer what `Lexemes` says.
 use Rattle.std.specs.Prelude.{ℕ, ◌<◌, ◌≤◌, ◌==◌, if◌then◌else◌, List, length, take, drop, slice_index, Option, Some, None}
 use Rattle.c_tokens.specs.declared.found.Found.{Found}
 use Rattle.c_tokens.specs.declared.found.Found.TheVariants.{Gap, Token, NoToken, Unsupported, LiteralRange}
@@ -19,6 +20,7 @@ IsWithin LiteralRange most = Unit {0}
 abbrev pub word_found : List ℕ → Found
 word_found word = found_of (token (word_kind word)) (length word)
 
+-- what a constant of this value and this many bytes is, or no token where the bytes are none
 abbrev pub value_found : Option ℕ → ℕ → Found
 value_found None len = NoToken
 value_found (Some value) len = found_of (constant value) len
@@ -29,6 +31,7 @@ constant_found text =
     if slice_index (drop (word_len text) text) 0 == 46 then NoToken
     else value_found (constant_of (take (word_len text) text)) (word_len text)
 
+-- what the operator of this row is, or no token where there is none
 abbrev pub row_found : Option Row → Found
 row_found None = NoToken
 row_found (Some row) = found_of (token row.1) (length row.0)

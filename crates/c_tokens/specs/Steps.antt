@@ -1,4 +1,5 @@
--- How a place moves on over bytes.
+-- How the program's place moves on over bytes, and what one step of it answers. No contract of a public function cites
+-- these: proofs show that they give what `Places` and `Tokens` say.
 use Rattle.std.specs.Prelude.{◌≡◌, ◌⊎◌, ℕ, length, take, Option, Some, None, Result, Ok, Err, ◌+◌, true, ◌&&◌, if◌then◌else◌, List, [], ◌∷◌}
 use Rattle.c_tokens.specs.declared.place.Place.{Place}
 use Rattle.c_tokens.specs.declared.token.Token.{Token}

@@ -2,7 +2,8 @@
 ghost use Rattle.std.specs.Prelude.{◌≡◌, ◌≤◌, length};
 ghost use Rattle.c_tokens.specs.Bytes.{is_white, is_blank, is_digit, is_word_byte, digit_value, word_len};
 
-/// Whether the byte is white space: space, tab, newline, carriage return, vertical tab or form feed.
+/// Whether the byte is white space: space, tab, newline, carriage return, vertical tab or form
+/// feed.
 pub fn is_white(byte: u8) -> bool
     ensures { result ≡ is_white byte }
 {

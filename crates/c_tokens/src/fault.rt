@@ -8,8 +8,8 @@ use std::alloc::{AllocError, AllocFailed};
 /// The first faulty place of a text: its line and its column, both from 1, columns in bytes.
 #[derive(Debug, Drop)]
 pub enum TokenFault {
-    /// No token stands there: no token starts with that byte, a constant that starts there is malformed, or a comment
-    /// that starts there is not closed.
+    /// No token stands there: no token starts with that byte, a constant that starts there is
+    /// malformed, or a comment that starts there is not closed.
     NoToken { line: u32, column: u32 },
     /// A keyword or an operator of C stands there that is outside the profile: `word`.
     Unsupported { word: Name, line: u32, column: u32 },

@@ -106,7 +106,8 @@ fn lexeme_found(alloc: Global, text: &[u8]) -> Result<Found, AllocError>
     Ok(operator_found(text))
 }
 
-/// What stands at the front of a text that is not empty; `front` says whether it is the front of a line, blanks aside.
+/// What stands at the front of a text that is not empty; `front` says whether it is the front of a
+/// line, blanks aside.
 pub fn found_at(alloc: Global, front: bool, text: &[u8]) -> Result<Found, AllocError>
     requires some { 0 < length text.now }
     requires small { length text.now < 2 ^ 32 }

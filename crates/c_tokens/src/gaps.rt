@@ -1,4 +1,5 @@
-//! What may stand between tokens: white space, comments (ISO C11, 6.4.9) and `#include` lines (6.10.2).
+//! What may stand between tokens: white space, comments (ISO C11, 6.4.9) and `#include` lines
+//! (6.10.2).
 ghost use Rattle.std.specs.Prelude.{◌≡◌, false, ℕ, ◌<◌, ◌≤◌, ◌+◌, ◌^◌, length, MatchOption, slice_index};
 ghost use Rattle.std.specs.List.{prefix_len};
 ghost use Rattle.c_tokens.specs.Bytes.{is_blank, is_white};
@@ -56,7 +57,8 @@ fn is_include(text: &[u8]) -> bool
     &word[..word_len(word)] == b"include".as_slice()
 }
 
-/// What begins at the front of a text that is not empty; `front` says whether it is the front of a line, blanks aside.
+/// What begins at the front of a text that is not empty; `front` says whether it is the front of a
+/// line, blanks aside.
 #[tactic(auto, unfolding(crate::specs::Gaps::opening_of))]
 pub fn opening_of(front: bool, text: &[u8]) -> Opening
     requires { 0 < length text.now }

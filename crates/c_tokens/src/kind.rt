@@ -36,6 +36,8 @@ pub enum Kind {
     Plus,
     Minus,
     Star,
+    Slash,
+    Percent,
     Less,
     LessEq,
     Greater,
@@ -52,6 +54,8 @@ pub enum Kind {
     PlusAssign,
     MinusAssign,
     StarAssign,
+    SlashAssign,
+    PercentAssign,
     PlusPlus,
     MinusMinus,
 }

@@ -81,8 +81,9 @@ fn scanned(alloc: Global, text: &[u8]) -> Result<Vec<Token>, TokenFault>
 
 /// The tokens of a text, or its first faulty place.
 ///
-/// The text has at most 65,536 bytes. An `Ok` has the one list of tokens that the text has, and a fault other than
-/// `Memory` is that of the first faulty place. Each comes exactly where it is, unless memory runs out.
+/// The text has at most 65,536 bytes. An `Ok` has the one list of tokens that the text has, and a
+/// fault other than `Memory` is that of the first faulty place. Each comes exactly where it is,
+/// unless memory runs out.
 pub fn tokens(alloc: Global, text: &[u8]) -> Result<Vec<Token>, TokenFault>
     requires { length text.now ≤ 65536 }
 
@@ -91,10 +92,10 @@ pub fn tokens(alloc: Global, text: &[u8]) -> Result<Vec<Token>, TokenFault>
     ensures fault { IfErr result (IsFault text.now) }
 
     // What is so comes, unless memory ran out.
-    ensures only_tokens { (tokens : List Token) → AreTokens text.now tokens →
-        MatchResult result (λ given. given.items ≡ tokens) (λ fault. fault ≡ TokenFault.Memory) }
-    ensures only_fault { (fault : TokenFault) → IsFirstFault text.now fault →
-        MatchResult result (λ given. ⊥) (λ given. (given ≡ fault) ⊎ (given ≡ TokenFault.Memory)) }
+    ensures only_tokens { (tokens : List Token) → AreTokens text.now tokens → MatchResult result
+        (λ given. given.items ≡ tokens) (λ fault. fault ≡ TokenFault.Memory) }
+    ensures only_fault { (fault : TokenFault) → IsFirstFault text.now fault → MatchResult result
+        (λ given. ⊥) (λ given. (given ≡ fault) ⊎ (given ≡ TokenFault.Memory)) }
 {
     scanned(alloc, text)
 }

@@ -1,4 +1,9 @@
-//! The keywords and the operators of C, each with its token where the profile has it. Definitions read these tables too.
+//! The keywords and the operators of C, each with its token where the profile has it, and the
+//! suffixes of constants.
+//!
+//! `specs/Tables.antt` has the same rows for the definitions: the searches in these tables
+//! (`words`, `constants`) are proved to be searches in those, row by row. A change of a row is a
+//! change of both.
 use crate::fixed::Fixed;
 
 /// A spelling, and its token where the profile has it.
@@ -53,8 +58,8 @@ pub const KEYWORDS: [Row; 44] = [
     ("_Thread_local",  None),
 ];
 
-/// The operators and punctuators (ISO C11, 6.4.6): those that begin alike stand together, longer ones first. The
-/// common ones of the profile come first.
+/// The operators and punctuators (ISO C11, 6.4.6): those that begin alike stand together, longer
+/// ones first. The common ones of the profile come first.
 #[rattlefmt::skip]
 pub const OPERATORS: [Row; 54] = [
     ("(",    Some(Fixed::OpenRound)),
@@ -99,13 +104,13 @@ pub const OPERATORS: [Row; 54] = [
     ("]",    None),
     ("...",  None),
     (".",    None),
-    ("/=",   None),
-    ("/",    None),
+    ("/=",   Some(Fixed::SlashAssign)),
+    ("/",    Some(Fixed::Slash)),
     ("%:%:", None),
-    ("%=",   None),
+    ("%=",   Some(Fixed::PercentAssign)),
     ("%:",   None),
     ("%>",   None),
-    ("%",    None),
+    ("%",    Some(Fixed::Percent)),
     ("^=",   None),
     ("^",    None),
     ("~",    None),
@@ -113,5 +118,6 @@ pub const OPERATORS: [Row; 54] = [
     ("#",    None),
 ];
 
-/// The suffixes of a constant (ISO C11, 6.4.4.1), none among them; those of unsigned types are outside the profile.
+/// The suffixes of a constant (ISO C11, 6.4.4.1), none among them; those of unsigned types are
+/// outside the profile.
 pub const SUFFIXES: [&str; 5] = ["", "l", "L", "ll", "LL"];

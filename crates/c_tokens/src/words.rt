@@ -3,7 +3,8 @@ ghost use Rattle.std.specs.Prelude.{◌≡◌, Option, IfOk, IsTrue, bytes_eq, n
 ghost use Rattle.std.specs.List.{list_all, starts_with};
 ghost use Rattle.std.specs.Option.{option_copied};
 ghost use Rattle.c_tokens.specs.Bytes.{is_word_byte};
-ghost use Rattle.c_tokens.specs.Tables.{kind_of, seen, keywords, operators};
+ghost use Rattle.c_tokens.specs.Fixed.{kind_of};
+ghost use Rattle.c_tokens.specs.Tables.{seen, keywords, operators};
 ghost use Rattle.c_tokens.specs.Lexemes as Lexemes;
 ghost use Rattle.c_tokens.specs.Lexemes.{word_kind};
 
@@ -21,7 +22,8 @@ fn row_with<'a>(rows: &'a [Row], bytes: &[u8]) -> Option<&'a Row>
 
 // The first row whose spelling stands at the front of the text.
 fn row_at<'a>(rows: &'a [Row], text: &[u8]) -> Option<&'a Row>
-    ensures { option_copied result ≡ find (λ row. starts_with nat_eq text.now row.0.now) rows.now }
+    ensures { option_copied result
+        ≡ find (λ row. starts_with nat_eq text.now row.0.now) rows.now }
 {
     rows.iter().find(|row| text.starts_with(row.0.as_bytes()))
 }

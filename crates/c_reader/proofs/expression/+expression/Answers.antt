@@ -2,6 +2,9 @@ use Rattle.std.proofs.Common.{◌≡◌, ℕ, suc, ◌+◌, ◌-◌, ◌≤◌, 
 use Rattle.std.proofs.lemmas.Result.{err_from_is_err_and}
 use Rattle.c_ast.specs.RawView.{raw_expression_of}
 use Rattle.c_reader.specs.ReadExpressions.{operand_at, level_at, expression_at, IsDeeper}
+use Rattle.c_tokens.specs.declared.fixed.Fixed.TheVariants as fixed
+use Rattle.c_reader.specs.Fronts.{first_of, lowered, behind_sign}
+use Rattle.c_reader.proofs.Reading.{first_of-is, first_of-none, lowered-is, lowered-none}
 use Rattle.c_reader.proofs.Equations.{operand_at-empty}
 use Rattle.c_reader.proofs.Readings.{level_at-operand, further_at-none, expression_at-level, choice_at-none, operand_at-wide, operand_at-none, reads-name, reads-constant, reads-bracket, reads-sign, reads-operation, reads-choice}
 use Rattle.c_reader.proofs.Refusals.{handed_on, deeper-zero, deeper-none, deeper-same, deeper-bracket, deeper-sign, deeper-level, deeper-operation, deeper-expression, deeper-choice, deeper-no_colon, deeper-second}
@@ -39,23 +42,25 @@ read_expression-returns-in_err-first-clause-refused t c =
     λ x y after first colon second. omega (arith, deeper x.0 x.1 first, c.in_ok-inside.ensures.room) in
     handed_on too_deep c.from_residual-in_err-first.result p.0 c.in_err-first.field-0.0 p.1 p.2 c.in_err-first.ensures.refused
 
-pub read_expression-returns-in_default-behind_sign-clause-refused :
-    goal.read_expression-returns-in_default-behind_sign-clause-refused
-read_expression-returns-in_default-behind_sign-clause-refused t c =
-    deeper-no_colon c.args.room c.args.tokens.now _ _ _ _ _ c.in_ok-cond.ensures.read c.in-Some.ensures.behind
-    c.in_ok-first.ensures.read c.in_default-behind_sign.ensures.behind
+pub read_expression-returns-in_err-after-clause-refused : goal.read_expression-returns-in_err-after-clause-refused
+read_expression-returns-in_err-after-clause-refused t c =
+    let p = err_from_is_err_and c.from_residual-in_err-after.result c.from_residual-in_err-after.ensures.1 in
+    let no_colon : behind_sign fixed.Colon c.in_ok-first.after.now ≡ None → IsDeeper c.args.room (expression_at c.args.tokens.now) =
+    λ none. deeper-no_colon c.args.room c.args.tokens.now _ _ _ _ _ c.in_ok-cond.ensures.read c.in-Some.ensures.behind
+    c.in_ok-first.ensures.read (sym none) in
+    handed_on no_colon c.from_residual-in_err-after.result p.0 c.in_err-after.field-0.0 p.1 p.2 c.in_err-after.ensures
 
 pub read_expression-returns-in_err-second-clause-refused : goal.read_expression-returns-in_err-second-clause-refused
 read_expression-returns-in_err-second-clause-refused t c =
     let p = err_from_is_err_and c.from_residual-in_err-second.result c.from_residual-in_err-second.ensures.1 in
     handed_on (deeper-second c.args.room c.in_ok-inside.inside c.args.tokens.now _ _ _ _ _ _ c.in_ok-cond.ensures.read
-    c.in-Some.ensures.behind c.in_ok-first.ensures.read c.in-Some-behind_sign.ensures.behind c.in_ok-inside.ensures.room)
+    c.in-Some.ensures.behind c.in_ok-first.ensures.read (sym c.in_ok-after.ensures) c.in_ok-inside.ensures.room)
     c.from_residual-in_err-second.result p.0 c.in_err-second.field-0.0 p.1 p.2 c.in_err-second.ensures.refused
 
 pub read_expression-returns-clause-read : goal.read_expression-returns-clause-read
 read_expression-returns-clause-read t c =
     rw c.in_ok-chosen.ensures.made (reads-choice c.args.tokens.now _ _ _ _ _ _ _ _ c.in_ok-cond.ensures.read
-    c.in-Some.ensures.behind c.in_ok-first.ensures.read c.in-Some-behind_sign.ensures.behind c.in_ok-second.ensures.read)
+    c.in-Some.ensures.behind c.in_ok-first.ensures.read (sym c.in_ok-after.ensures) c.in_ok-second.ensures.read)
 
 -- ---- levels
 
@@ -112,81 +117,126 @@ read_level-returns-clause-read t c =
 
 -- ---- operands
 
-pub read_operand-returns-then-room-eq0-clause-refused : goal.read_operand-returns-then-room-eq0-clause-refused
-read_operand-returns-then-room-eq0-clause-refused t c =
-    deeper-zero c.args.room (operand_at c.args.tokens.now) c.if-room-eq0.true
+pub read_operand-returns-in_err-below-clause-refused : goal.read_operand-returns-in_err-below-clause-refused
+read_operand-returns-in_err-below-clause-refused t c =
+    let p = err_from_is_err_and c.from_residual.result c.from_residual.ensures.1 in
+    let no_room : lowered c.args.room ≡ None → IsDeeper c.args.room (operand_at c.args.tokens.now) =
+    λ none. deeper-zero c.args.room (operand_at c.args.tokens.now) (lowered-none c.args.room none) in
+    handed_on no_room c.from_residual.result p.0 c.in_err-below.field-0.0 p.1 p.2 c.in_err-below.ensures
 
-pub read_operand-returns-in_default-clause-refused : goal.read_operand-returns-in_default-clause-refused
-read_operand-returns-in_default-clause-refused t c =
-    deeper-none c.args.room (operand_at c.args.tokens.now) (operand_at-empty c.args.tokens.now c.in_default.ensures.cases)
+pub read_operand-returns-in_err-token-clause-refused : goal.read_operand-returns-in_err-token-clause-refused
+read_operand-returns-in_err-token-clause-refused t c =
+    let p = err_from_is_err_and c.from_residual-in_err-token.result c.from_residual-in_err-token.ensures.1 in
+    let no_token : first_of c.args.tokens.now ≡ None → IsDeeper c.args.room (operand_at c.args.tokens.now) =
+    λ none. deeper-none c.args.room (operand_at c.args.tokens.now)
+    (operand_at-empty c.args.tokens.now (ap length (first_of-none c.args.tokens.now none))) in
+    handed_on no_token c.from_residual-in_err-token.result p.0 c.in_err-token.field-0.0 p.1 p.2 c.in_err-token.ensures
 
-pub read_operand-returns-then-value-clause-refused : goal.read_operand-returns-then-value-clause-refused
-read_operand-returns-then-value-clause-refused t c =
-    deeper-none c.args.room (operand_at c.args.tokens.now) (ap operand_at c.in-Some.ensures.cases.0
-    ∙ operand_at-wide c.in-Some.token.now c.in-Some.others.now c.in-Constant.value c.in-Constant.is (omega (arith, c.if-value.true)))
+pub read_operand-returns-in_err-tree-in-Constant-clause-refused :
+    goal.read_operand-returns-in_err-tree-in-Constant-clause-refused
+read_operand-returns-in_err-tree-in-Constant-clause-refused t c =
+    let p = err_from_is_err_and c.from_residual-in_err-tree-in-Constant.result
+    c.from_residual-in_err-tree-in-Constant.ensures.1 in
+    let parts = first_of-is c.args.tokens.now c.in_ok-token.token.now c.in_ok-token.others.now c.in_ok-token.ensures in
+    let too_wide : c.constant.result ≡ None → IsDeeper c.args.room (operand_at c.args.tokens.now) =
+    λ none. deeper-none c.args.room (operand_at c.args.tokens.now) (ap operand_at parts
+    ∙ operand_at-wide c.in_ok-token.token.now c.in_ok-token.others.now c.in-Constant.value c.in-Constant.is (c.constant.ensures.wide none)) in
+    handed_on too_wide c.from_residual-in_err-tree-in-Constant.result p.0 c.in_err-tree-in-Constant.field-0.0 p.1 p.2
+    c.in_err-tree-in-Constant.ensures
 
 pub read_operand-returns-in_err-inside-in-OpenRound-clause-refused :
     goal.read_operand-returns-in_err-inside-in-OpenRound-clause-refused
 read_operand-returns-in_err-inside-in-OpenRound-clause-refused t c =
     let p = err_from_is_err_and c.from_residual-in_err-inside-in-OpenRound.result
     c.from_residual-in_err-inside-in-OpenRound.ensures.1 in
-    let too_deep : IsDeeper c.args.room (expression_at c.in-Some.others.now) → IsDeeper c.args.room (operand_at c.args.tokens.now) =
-    λ deeper. deeper-same c.args.room _ _ (ap operand_at c.in-Some.ensures.cases.0)
-    (deeper-bracket c.args.room c.in-Some.token.now c.in-Some.others.now c.in-OpenRound.is deeper) in
+    let parts = first_of-is c.args.tokens.now c.in_ok-token.token.now c.in_ok-token.others.now c.in_ok-token.ensures in
+    let too_deep : IsDeeper c.args.room (expression_at c.in_ok-token.others.now) → IsDeeper c.args.room (operand_at c.args.tokens.now) =
+    λ deeper. deeper-same c.args.room _ _ (ap operand_at parts)
+    (deeper-bracket c.args.room c.in_ok-token.token.now c.in_ok-token.others.now c.in-OpenRound.is deeper) in
     handed_on too_deep c.from_residual-in_err-inside-in-OpenRound.result p.0 c.in_err-inside-in-OpenRound.field-0.0 p.1 p.2
     c.in_err-inside-in-OpenRound.ensures.refused
 
-pub read_operand-returns-in_default-behind_sign-clause-refused :
-    goal.read_operand-returns-in_default-behind_sign-clause-refused
-read_operand-returns-in_default-behind_sign-clause-refused t c =
-    deeper-none c.args.room (operand_at c.args.tokens.now) (reads-bracket c.args.tokens.now _ _ _ _ None c.in-Some.ensures.cases.0
-    c.in-OpenRound.is c.in_ok-inside-in-OpenRound.ensures.read c.in_default-behind_sign.ensures.behind)
+pub read_operand-returns-in_err-after-in-OpenRound-clause-refused :
+    goal.read_operand-returns-in_err-after-in-OpenRound-clause-refused
+read_operand-returns-in_err-after-in-OpenRound-clause-refused t c =
+    let p = err_from_is_err_and c.from_residual-in_err-after-in-OpenRound.result
+    c.from_residual-in_err-after-in-OpenRound.ensures.1 in
+    let parts = first_of-is c.args.tokens.now c.in_ok-token.token.now c.in_ok-token.others.now c.in_ok-token.ensures in
+    let no_bracket : behind_sign fixed.CloseRound c.in_ok-inside-in-OpenRound.after.now ≡ None
+    → IsDeeper c.args.room (operand_at c.args.tokens.now) =
+    λ none. deeper-none c.args.room (operand_at c.args.tokens.now) (reads-bracket c.args.tokens.now _ _ _ _ None parts
+    c.in-OpenRound.is c.in_ok-inside-in-OpenRound.ensures.read (sym none)) in
+    handed_on no_bracket c.from_residual-in_err-after-in-OpenRound.result p.0 c.in_err-after-in-OpenRound.field-0.0 p.1 p.2
+    c.in_err-after-in-OpenRound.ensures
 
-pub read_operand-returns-in_default-unary_of : goal.read_operand-returns-in_default-unary_of
-read_operand-returns-in_default-unary_of t c = record {
-  read = tt;
-  within = tt;
-  shorter = tt;
-  refused = deeper-none c.args.room (operand_at c.args.tokens.now) (ap operand_at c.in-Some.ensures.cases.0
-      ∙ operand_at-none c.in-Some.token.now c.in-Some.others.now c.in_default-kind.not-Word c.in_default-kind.not-Constant
-      c.in_default-kind.not-OpenRound (sym c.in_default-unary_of.ensures));
-}
-
-pub read_operand-returns-in_err-operand-in_default-kind : goal.read_operand-returns-in_err-operand-in_default-kind
-read_operand-returns-in_err-operand-in_default-kind t c =
-    let p = err_from_is_err_and c.from_residual-in_err-operand-in_default-kind.result
-    c.from_residual-in_err-operand-in_default-kind.ensures.1 in
-    let too_deep : IsDeeper (c.args.room - 1) (operand_at c.in-Some.others.now) → IsDeeper c.args.room (operand_at c.args.tokens.now) =
-    λ deeper. deeper-same c.args.room _ _ (ap operand_at c.in-Some.ensures.cases.0)
-    (deeper-sign c.args.room c.in-Some.token.now c.in-Some.others.now _ (sym c.in-Some-unary_of.ensures) deeper) in
+pub read_operand-returns-in_err-op-in_default : goal.read_operand-returns-in_err-op-in_default
+read_operand-returns-in_err-op-in_default t c =
+    let p = err_from_is_err_and c.from_residual-in_err-op-in_default.result
+    c.from_residual-in_err-op-in_default.ensures.1 in
+    let parts = first_of-is c.args.tokens.now c.in_ok-token.token.now c.in_ok-token.others.now c.in_ok-token.ensures in
+    let no_sign : c.unary_of.result ≡ None → IsDeeper c.args.room (operand_at c.args.tokens.now) =
+    λ none. deeper-none c.args.room (operand_at c.args.tokens.now) (ap operand_at parts
+    ∙ operand_at-none c.in_ok-token.token.now c.in_ok-token.others.now c.in_default.not-Word c.in_default.not-Constant
+    c.in_default.not-OpenRound (sym c.unary_of.ensures ∙ none)) in
     record {
       read = rw p.1 tt;
       within = rw p.1 tt;
       shorter = rw p.1 tt;
-      refused = handed_on too_deep c.from_residual-in_err-operand-in_default-kind.result p.0
-          c.in_err-operand-in_default-kind.field-0.0 p.1 p.2 c.in_err-operand-in_default-kind.ensures.refused;
+      refused = handed_on no_sign c.from_residual-in_err-op-in_default.result p.0
+          c.in_err-op-in_default.field-0.0 p.1 p.2 c.in_err-op-in_default.ensures;
+    }
+
+pub read_operand-returns-in_err-operand-in_default : goal.read_operand-returns-in_err-operand-in_default
+read_operand-returns-in_err-operand-in_default t c =
+    let p = err_from_is_err_and c.from_residual-in_err-operand-in_default.result
+    c.from_residual-in_err-operand-in_default.ensures.1 in
+    let parts = first_of-is c.args.tokens.now c.in_ok-token.token.now c.in_ok-token.others.now c.in_ok-token.ensures in
+    let less : c.args.room - 1 ≡ c.in_ok-below.below = omega (arith, lowered-is c.args.room c.in_ok-below.below c.in_ok-below.ensures) in
+    let too_deep : IsDeeper c.in_ok-below.below (operand_at c.in_ok-token.others.now) → IsDeeper c.args.room (operand_at c.args.tokens.now) =
+    λ deeper. deeper-same c.args.room _ _ (ap operand_at parts)
+    (deeper-sign c.args.room c.in_ok-token.token.now c.in_ok-token.others.now _ (sym c.unary_of.ensures ∙ c.in_ok-op-in_default.ensures)
+    (rw less deeper)) in
+    record {
+      read = rw p.1 tt;
+      within = rw p.1 tt;
+      shorter = rw p.1 tt;
+      refused = handed_on too_deep c.from_residual-in_err-operand-in_default.result p.0
+          c.in_err-operand-in_default.field-0.0 p.1 p.2 c.in_err-operand-in_default.ensures.refused;
     }
 
 pub read_operand-returns-in_ok-copy-in-Word-clause-read : goal.read_operand-returns-in_ok-copy-in-Word-clause-read
 read_operand-returns-in_ok-copy-in-Word-clause-read t c =
+    let parts = first_of-is c.args.tokens.now c.in_ok-token.token.now c.in_ok-token.others.now c.in_ok-token.ensures in
     rw (c.named.ensures.made, c.in_ok-copy-in-Word.ensures)
-    (reads-name c.args.tokens.now c.in-Some.others.now c.in-Some.token.now c.in-Word.name c.in-Some.ensures.cases.0 c.in-Word.is)
+    (reads-name c.args.tokens.now c.in_ok-token.others.now c.in_ok-token.token.now c.in-Word.name parts c.in-Word.is)
 
-pub read_operand-returns-else-value-clause-read : goal.read_operand-returns-else-value-clause-read
-read_operand-returns-else-value-clause-read t c =
-    rw c.constant.ensures.made (reads-constant c.args.tokens.now c.in-Some.others.now c.in-Some.token.now c.in-Constant.value
-    c.in-Some.ensures.cases.0 c.in-Constant.is (omega (arith, c.if-value.false)))
+pub read_operand-returns-in_ok-tree-in-Constant-clause-read : goal.read_operand-returns-in_ok-tree-in-Constant-clause-read
+read_operand-returns-in_ok-tree-in-Constant-clause-read t c =
+    let parts = first_of-is c.args.tokens.now c.in_ok-token.token.now c.in_ok-token.others.now c.in_ok-token.ensures in
+    let made = rw c.in_ok-tree-in-Constant.ensures at c.constant.ensures.made in
+    let below = rw c.in_ok-tree-in-Constant.ensures at c.constant.ensures.below in
+    rw made (reads-constant c.args.tokens.now c.in_ok-token.others.now c.in_ok-token.token.now c.in-Constant.value parts
+    c.in-Constant.is below)
 
-pub read_operand-returns-in-Some-behind_sign-clause-read : goal.read_operand-returns-in-Some-behind_sign-clause-read
-read_operand-returns-in-Some-behind_sign-clause-read t c =
-    reads-bracket c.args.tokens.now _ _ _ _ (Some c.in-Some-behind_sign.after.now) c.in-Some.ensures.cases.0
-    c.in-OpenRound.is c.in_ok-inside-in-OpenRound.ensures.read c.in-Some-behind_sign.ensures.behind
+pub read_operand-returns-in_ok-after-in-OpenRound-clause-read : goal.read_operand-returns-in_ok-after-in-OpenRound-clause-read
+read_operand-returns-in_ok-after-in-OpenRound-clause-read t c =
+    let parts = first_of-is c.args.tokens.now c.in_ok-token.token.now c.in_ok-token.others.now c.in_ok-token.ensures in
+    reads-bracket c.args.tokens.now _ _ _ _ (Some c.in_ok-after-in-OpenRound.after.now) parts
+    c.in-OpenRound.is c.in_ok-inside-in-OpenRound.ensures.read (sym c.in_ok-after-in-OpenRound.ensures)
 
-pub read_operand-returns-in_ok-signed-in_default-kind : goal.read_operand-returns-in_ok-signed-in_default-kind
-read_operand-returns-in_ok-signed-in_default-kind t c = record {
-  read = rw c.in_ok-signed-in_default-kind.ensures.made (reads-sign c.args.tokens.now c.in-Some.others.now _ c.in-Some.token.now _ _
-      c.in-Some.ensures.cases.0 (sym c.in-Some-unary_of.ensures) c.in_ok-operand-in_default-kind.ensures.read);
-  within = omega (arith, c.in_ok-signed-in_default-kind.ensures.depth, c.in_ok-operand-in_default-kind.ensures.within, c.if-room-eq0.false);
-  shorter = omega (arith, c.in_ok-operand-in_default-kind.ensures.shorter, ap length c.in-Some.ensures.cases.0);
-  refused = tt;
-}
+pub read_operand-returns-in_ok-signed-in_default : goal.read_operand-returns-in_ok-signed-in_default
+read_operand-returns-in_ok-signed-in_default t c =
+    let parts = first_of-is c.args.tokens.now c.in_ok-token.token.now c.in_ok-token.others.now c.in_ok-token.ensures in
+    record {
+      read = rw c.in_ok-signed-in_default.ensures.made (reads-sign c.args.tokens.now c.in_ok-token.others.now _
+          c.in_ok-token.token.now _ _ parts (sym c.unary_of.ensures ∙ c.in_ok-op-in_default.ensures)
+          c.in_ok-operand-in_default.ensures.read);
+      within = omega (
+        arith,
+        c.in_ok-signed-in_default.ensures.depth,
+        c.in_ok-operand-in_default.ensures.within,
+        lowered-is c.args.room c.in_ok-below.below c.in_ok-below.ensures,
+      );
+      shorter = omega (arith, c.in_ok-operand-in_default.ensures.shorter, ap length parts);
+      refused = tt;
+    }

@@ -1,4 +1,4 @@
-use Rattle.c_reader.proofs.UnitCompleteness.{unit-one}
+use Rattle.c_reader.proofs.Laws.{unit-one}
 use Rattle.c_reader.proofs.unit.one_tree.Goals as goal
 
 pub returns : goal.returns

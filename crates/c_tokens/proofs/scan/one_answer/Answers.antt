@@ -1,4 +1,4 @@
-use Rattle.c_tokens.proofs.OneAnswer.{answers-one}
+use Rattle.c_tokens.proofs.Laws.{answers-one}
 use Rattle.c_tokens.proofs.scan.one_answer.Goals as goal
 
 pub returns : goal.returns

@@ -1,6 +1,6 @@
 use Rattle.std.proofs.lemmas.Result.{err_from_is_err_and}
 use Rattle.c_reader.proofs.Shallow.{shallow-refuses}
-use Rattle.c_reader.proofs.declaration.read_shallow.Goals as goal
+use Rattle.c_reader.proofs.expression.read_shallow.Goals as goal
 
 pub returns-in_err-tree : goal.returns-in_err-tree
 returns-in_err-tree c =
