@@ -65,7 +65,8 @@ agree_set n scope a b x v w e same = subst (λ (z : ℤ). Agree n (x ∷ scope) 
   where
     at : (y : ℕ) (t : Bool) → eqb x y ≡ t → (t || is_in scope y) ≡ true
         → get_or (set a x v) y (pos 0) ≡ get_or (set b x v) y (pos 0)
-    at y true is inside = subst (λ (k : ℕ). get_or (set a x v) k (pos 0) ≡ get_or (set b x v) k (pos 0)) (eqb-true x y is) (set_both a b x v (same.left ∙ sym same.right))
+    at y true is inside = subst (λ (k : ℕ). get_or (set a x v) k (pos 0) ≡ get_or (set b x v) k (pos 0)) (eqb-true x y is)
+        (set_both a b x v (same.left ∙ sym same.right))
     at y false is inside =
         get_or-set_other a x y v (pos 0) (λ p. eqb-false x y is (sym p)) ∙ same.agree y inside
         ∙ sym (get_or-set_other b x y v (pos 0) (λ p. eqb-false x y is (sym p)))
@@ -86,7 +87,8 @@ spread-values scope i (v ∷ a) (suc x) inside =
     there (is_in scope i) (spread-values scope (suc i) a x (let e : i + suc x ≡ suc i + x = omega arith in rw e at inside))
   where
     there : (t : Bool) → get_or (spread_from (pos 0) scope (suc i) (length a) (values_from scope (suc i) a)) x (pos 0) ≡ get_or a x (pos 0)
-        → get_or (spread_one (pos 0) t (with_value t v (values_from scope (suc i) a)) (spread_from (pos 0) scope (suc i) (length a))) (suc x) (pos 0) ≡ get_or a x (pos 0)
+        → get_or (spread_one (pos 0) t (with_value t v (values_from scope (suc i) a)) (spread_from (pos 0) scope (suc i) (length a))) (suc x) (pos 0)
+        ≡ get_or a x (pos 0)
     there true e = e
     there false e = e
 

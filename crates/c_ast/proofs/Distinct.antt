@@ -67,14 +67,27 @@ list_back (stmt ∷ stmts) =
     stmt.1 (statements_of (map (λ (x : Shown). x.0) stmts)) ∙ ap (λ (others : List Stmt). stmt.0 ∷ others) (list_back stmts)
 
 -- one level of a statement, by what it puts in front
-front_level : (level : Stmt-F Stmt) (others : Statements) → put_in_front (roll-Stmt level) others ≡ statement_level (map-Stmt Stmt (Statements → Statements) put_in_front level) others
+front_level : (level : Stmt-F Stmt) (others : Statements) → put_in_front (roll-Stmt level) others
+    ≡ statement_level (map-Stmt Stmt (Statements → Statements) put_in_front level) others
 front_level level others = ap (λ (front : Statements → Statements). front others) (fold-roll-Stmt (Statements → Statements) statement_level level)
 
 level_front : (level : Stmt-F Shown) → IsFrontBack (roll-Stmt (map-Stmt Shown Stmt (λ x. x.0) level))
 level_front (Stmt-F.Set x e) others = rw (front_level (Stmt-F.Set x e) others, expression_back e) refl
-level_front (Stmt-F.If e a b) others = rw (front_level (Stmt-F.If e (map (λ (x : Shown). x.0) a) (map (λ (x : Shown). x.0) b)) others, expression_back e, list_back a, list_back b) refl
+level_front (Stmt-F.If e a b) others = rw (
+  front_level (Stmt-F.If e (map (λ (x : Shown). x.0) a)
+      (map (λ (x : Shown). x.0) b)) others,
+  expression_back e,
+  list_back a,
+  list_back b,
+) refl
 level_front (Stmt-F.Loop mark cond body step test_first) others =
-    rw (front_level (Stmt-F.Loop mark cond (map (λ (x : Shown). x.0) body) (map (λ (x : Shown). x.0) step) test_first) others, expression_back cond, list_back body, list_back step) refl
+    rw (
+      front_level (Stmt-F.Loop mark cond (map (λ (x : Shown). x.0) body)
+          (map (λ (x : Shown). x.0) step) test_first) others,
+      expression_back cond,
+      list_back body,
+      list_back step,
+    ) refl
 level_front Stmt-F.Break others = rw (front_level Stmt-F.Break others) refl
 level_front Stmt-F.Continue others = rw (front_level Stmt-F.Continue others) refl
 level_front (Stmt-F.Return e) others = rw (front_level (Stmt-F.Return e) others, expression_back e) refl

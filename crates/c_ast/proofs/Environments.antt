@@ -1,12 +1,8 @@
 -- The first environment, and the values of the variables in scope.
-use Rattle.std.proofs.Common.{◌≡◌, ℕ, zero, suc, ◌+◌, ◌-◌, ◌<◌, ◌≤◌, Bool, true, false, nat_lt, List, [], ◌∷◌, ◌++◌, map, length, get_or, take, take_all, drop, ℤ, pos, refl, sym, ap, ◌∙◌, subst, arith, append_assoc, append-nil, drop-cons, drop_of_length-le}
+use Rattle.std.proofs.Common.{◌≡◌, ℕ, zero, suc, ◌+◌, ◌-◌, ◌<◌, ◌≤◌, Bool, true, false, nat_lt, List, [], ◌∷◌, ◌++◌, map, length, get_or, drop, ℤ, pos, refl, sym, ap, ◌∙◌, subst, arith, append_assoc, append-nil, drop-cons, drop_of_length-le}
 use Rattle.std.proofs.lemmas.Bool.Decides.{nat_tests}
-use Rattle.c_ast.specs.declared.place.Place.{Place}
-use Rattle.c_ast.specs.declared.place.Place.TheVariants as place
-use Rattle.c_ast.specs.Tree.{Program}
-use Rattle.c_ast.specs.Segment.{GoesOnFrom}
-use Rattle.c_ast.specs.Step.{Work, scope_of, Scope, is_in, first_variables, with_value, values_from, values_in, spread_from, spread}
-use Rattle.c_ast.specs.Scope.{with_variable, variables_from, variables_in, AreInScope}
+use Rattle.c_ast.specs.Step.{Scope, is_in, first_variables, with_value, values_from, values_in, spread_from, spread}
+use Rattle.c_ast.specs.Scope.{with_variable, variables_from, variables_in}
 use Rattle.c_ast.proofs.InScope.{is_in-first_variables}
 
 -- ---- the inputs, and 0 behind them
@@ -17,11 +13,13 @@ get_or_past (x ∷ xs) zero over = absurd (omega arith)
 get_or_past (x ∷ xs) (suc k) over = get_or_past xs k (omega arith)
 
 spread_from-input : (inputs : List ℤ) (x m : ℕ)
-    → spread_from (pos 0) (first_variables (length inputs)) x (suc m) (drop x inputs) ≡ get_or inputs x (pos 0) ∷ spread_from (pos 0) (first_variables (length inputs)) (suc x) m (drop (suc x) inputs)
+    → spread_from (pos 0) (first_variables (length inputs)) x (suc m) (drop x inputs)
+    ≡ get_or inputs x (pos 0) ∷ spread_from (pos 0) (first_variables (length inputs)) (suc x) m (drop (suc x) inputs)
 spread_from-input inputs x m = on (nat_lt x (length inputs)) refl
   where
     on : (t : Bool) → nat_lt x (length inputs) ≡ t
-        → spread_from (pos 0) (first_variables (length inputs)) x (suc m) (drop x inputs) ≡ get_or inputs x (pos 0) ∷ spread_from (pos 0) (first_variables (length inputs)) (suc x) m (drop (suc x) inputs)
+        → spread_from (pos 0) (first_variables (length inputs)) x (suc m) (drop x inputs)
+        ≡ get_or inputs x (pos 0) ∷ spread_from (pos 0) (first_variables (length inputs)) (suc x) m (drop (suc x) inputs)
     on true is =
         let below : x < length inputs = grind (arith, nat_tests) in
         rw (is_in-first_variables (length inputs) x, is, drop-cons inputs x (pos 0) below)
@@ -37,15 +35,20 @@ pub record ListsInputs (inputs : List ℤ) (n x : ℕ) (values : List ℤ) : Typ
 pub inputs_none : (inputs : List ℤ) (n : ℕ) → ListsInputs inputs n 0 []
 inputs_none inputs n = record { is = (let e : n - 0 ≡ n = omega arith in ap (λ (m : ℕ). spread_from (pos 0) (first_variables (length inputs)) 0 m inputs) e) }
 
-pub inputs_one : (inputs : List ℤ) (n x next : ℕ) (values : List ℤ) (value : ℤ) → next ≡ suc x → x < n → value ≡ get_or inputs x (pos 0) → ListsInputs inputs n x values → ListsInputs inputs n next (values ++ value ∷ [])
+pub inputs_one : (inputs : List ℤ) (n x next : ℕ) (values : List ℤ) (value : ℤ) → next ≡ suc x → x < n → value ≡ get_or inputs x (pos 0)
+    → ListsInputs inputs n x values → ListsInputs inputs n next (values ++ value ∷ [])
 inputs_one inputs n x next values value next_is below value_is lists =
     let e : n - x ≡ suc (n - suc x) = omega arith in
     record {
-      is = rw (next_is, value_is) (append_assoc values (get_or inputs x (pos 0) ∷ []) (spread_from (pos 0) (first_variables (length inputs)) (suc x) (n - suc x) (drop (suc x) inputs))
-          ∙ ap (λ (z : List ℤ). values ++ z) (sym (ap (λ (m : ℕ). spread_from (pos 0) (first_variables (length inputs)) x m (drop x inputs)) e ∙ spread_from-input inputs x (n - suc x))) ∙ lists.is);
+      is = rw (next_is, value_is)
+          (append_assoc values (get_or inputs x (pos 0) ∷ []) (spread_from (pos 0) (first_variables (length inputs)) (suc x) (n - suc x) (drop (suc x) inputs))
+          ∙ ap (λ (z : List ℤ). values ++ z)
+          (sym (ap (λ (m : ℕ). spread_from (pos 0) (first_variables (length inputs)) x m (drop x inputs)) e ∙ spread_from-input inputs x (n - suc x)))
+          ∙ lists.is);
     }
 
-pub inputs_all : (inputs : List ℤ) (n x : ℕ) (values : List ℤ) → n ≤ x → ListsInputs inputs n x values → values ≡ spread (first_variables (length inputs)) n inputs
+pub inputs_all : (inputs : List ℤ) (n x : ℕ) (values : List ℤ) → n ≤ x → ListsInputs inputs n x values → values
+    ≡ spread (first_variables (length inputs)) n inputs
 inputs_all inputs n x values over lists =
     let e : n - x ≡ 0 = omega arith in
     sym (append-nil values) ∙ ap (λ (m : ℕ). values ++ spread_from (pos 0) (first_variables (length inputs)) x m (drop x inputs)) (sym e) ∙ lists.is
@@ -71,7 +74,8 @@ variables_from-below : (s : Scope) (x n k d : ℕ) → k < length (variables_fro
 variables_from-below s x zero k d below = absurd (omega arith)
 variables_from-below s x (suc n) k d below = both (is_in s x) k below (λ k lt. variables_from-below s (suc x) n k d lt)
   where
-    both : (t : Bool) (k : ℕ) → k < length (with_variable t x (variables_from s (suc x) n)) → ((k : ℕ) → k < length (variables_from s (suc x) n) → get_or (variables_from s (suc x) n) k d < suc x + n)
+    both : (t : Bool) (k : ℕ) → k < length (with_variable t x (variables_from s (suc x) n))
+        → ((k : ℕ) → k < length (variables_from s (suc x) n) → get_or (variables_from s (suc x) n) k d < suc x + n)
         → get_or (with_variable t x (variables_from s (suc x) n)) k d < x + suc n
     both true zero below others = omega arith
     both true (suc k) below others = omega (arith, others k (omega arith))

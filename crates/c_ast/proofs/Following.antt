@@ -26,10 +26,13 @@ work_if false work = None
 abbrev pub work_after : Scope → Statements → Work → ℕ → Option Work
 work_after scope Nil work mark = None
 work_after scope (Set x e others) work mark = work_after (x ∷ scope) others work mark
-work_after scope (If e a b others) work mark = or_else (work_after scope a (Run scope others ∷ work) mark) (or_else (work_after scope b (Run scope others ∷ work) mark) (work_after scope others work mark))
+work_after scope (If e a b others) work mark = or_else (work_after scope a (Run scope others ∷ work) mark)
+    (or_else (work_after scope b (Run scope others ∷ work) mark) (work_after scope others work mark))
 work_after scope (Loop own e body tail first others) work mark =
     let loop : LoopParts = record { mark = own; cond = e; body = body; step = tail } in
-    or_else (work_if (is_mark own mark) (Cond scope loop ∷ Run scope others ∷ work)) (or_else (work_after scope body (Tail scope loop ∷ Run scope others ∷ work) mark) (or_else (work_after scope tail (Test scope loop ∷ Run scope others ∷ work) mark) (work_after scope others work mark)))
+    or_else (work_if (is_mark own mark) (Cond scope loop ∷ Run scope others ∷ work))
+    (or_else (work_after scope body (Tail scope loop ∷ Run scope others ∷ work) mark)
+    (or_else (work_after scope tail (Test scope loop ∷ Run scope others ∷ work) mark) (work_after scope others work mark)))
 work_after scope (Break others) work mark = work_after scope others work mark
 work_after scope (Continue others) work mark = work_after scope others work mark
 work_after scope (Return e others) work mark = work_after scope others work mark
@@ -55,7 +58,8 @@ some_count (Set x e others) scope work mark after stands = some_count others (x 
 some_count (If e a b others) scope work mark after (inl stands) = omega (arith, some_count a scope (Run scope others ∷ work) mark after stands)
 some_count (If e a b others) scope work mark after (inr (inl stands)) = omega (arith, some_count b scope (Run scope others ∷ work) mark after stands)
 some_count (If e a b others) scope work mark after (inr (inr stands)) = omega (arith, some_count others scope work mark after stands)
-some_count (Loop own e body tail first others) scope work mark after (inl stands) = let counted : one_if (is_mark own mark) ≡ 1 = rw (stands.0, eq-eqb mark mark refl) in omega arith
+some_count (Loop own e body tail first others) scope work mark after (inl stands) = let counted : one_if (is_mark own mark)
+    ≡ 1 = rw (stands.0, eq-eqb mark mark refl) in omega arith
 some_count (Loop own e body tail first others) scope work mark after (inr (inl stands)) = omega (arith, some_count body scope _ mark after stands)
 some_count (Loop own e body tail first others) scope work mark after (inr (inr (inl stands))) = omega (arith, some_count tail scope _ mark after stands)
 some_count (Loop own e body tail first others) scope work mark after (inr (inr (inr stands))) = omega (arith, some_count others scope work mark after stands)
@@ -75,9 +79,12 @@ none_found : (stmts : Statements) (scope : Scope) (work : Work) (mark : ℕ) →
 none_found Nil scope work mark none = refl
 none_found (Set x e others) scope work mark none = none_found others (x ∷ scope) work mark none
 none_found (If e a b others) scope work mark none =
-    or_none _ _ (none_found a scope _ mark (omega arith)) (or_none _ _ (none_found b scope _ mark (omega arith)) (none_found others scope work mark (omega arith)))
+    or_none _ _ (none_found a scope _ mark (omega arith))
+    (or_none _ _ (none_found b scope _ mark (omega arith)) (none_found others scope work mark (omega arith)))
 none_found (Loop own e body tail first others) scope work mark none =
-    or_none _ _ (if_none (is_mark own mark) _ (omega arith)) (or_none _ _ (none_found body scope _ mark (omega arith)) (or_none _ _ (none_found tail scope _ mark (omega arith)) (none_found others scope work mark (omega arith))))
+    or_none _ _ (if_none (is_mark own mark) _ (omega arith))
+    (or_none _ _ (none_found body scope _ mark (omega arith))
+    (or_none _ _ (none_found tail scope _ mark (omega arith)) (none_found others scope work mark (omega arith))))
 none_found (Break others) scope work mark none = none_found others scope work mark none
 none_found (Continue others) scope work mark none = none_found others scope work mark none
 none_found (Return e others) scope work mark none = none_found others scope work mark none
@@ -89,7 +96,8 @@ none_found (Block a others) scope work mark none = or_none _ _ (none_found a sco
 if_some : (holds : Bool) (work after : Work) → holds ≡ true → after ≡ work → work_if holds work ≡ Some after
 if_some holds work after is same = rw (is, same)
 
-pub stands_once : (stmts : Statements) (scope : Scope) (work : Work) (mark : ℕ) (after : Work) → marks mark stmts ≤ 1 → StandsIn scope stmts work mark after → work_after scope stmts work mark ≡ Some after
+pub stands_once : (stmts : Statements) (scope : Scope) (work : Work) (mark : ℕ) (after : Work) → marks mark stmts ≤ 1 → StandsIn scope stmts work mark after
+    → work_after scope stmts work mark ≡ Some after
 stands_once Nil scope work mark after few stands = absurd stands
 stands_once (Set x e others) scope work mark after few stands = stands_once others (x ∷ scope) work mark after few stands
 stands_once (If e a b others) scope work mark after few (inl stands) = or_left _ _ after (stands_once a scope _ mark after (omega arith) stands)
@@ -98,7 +106,8 @@ stands_once (If e a b others) scope work mark after few (inr (inl stands)) =
     or_right _ _ after (none_found a scope _ mark (omega arith)) (or_left _ _ after (stands_once b scope _ mark after (omega arith) stands))
 stands_once (If e a b others) scope work mark after few (inr (inr stands)) =
     let counted = some_count others scope work mark after stands in
-    or_right _ _ after (none_found a scope _ mark (omega arith)) (or_right _ _ after (none_found b scope _ mark (omega arith)) (stands_once others scope work mark after (omega arith) stands))
+    or_right _ _ after (none_found a scope _ mark (omega arith))
+    (or_right _ _ after (none_found b scope _ mark (omega arith)) (stands_once others scope work mark after (omega arith) stands))
 stands_once (Loop own e body tail first others) scope work mark after few (inl stands) =
     let is : is_mark own mark ≡ true = rw (stands.0) (eq-eqb mark mark refl) in
     or_left _ _ after (if_some (is_mark own mark) _ after is stands.1)
@@ -107,10 +116,13 @@ stands_once (Loop own e body tail first others) scope work mark after few (inr (
     or_right _ _ after (if_none (is_mark own mark) _ (omega arith)) (or_left _ _ after (stands_once body scope _ mark after (omega arith) stands))
 stands_once (Loop own e body tail first others) scope work mark after few (inr (inr (inl stands))) =
     let counted = some_count tail scope _ mark after stands in
-    or_right _ _ after (if_none (is_mark own mark) _ (omega arith)) (or_right _ _ after (none_found body scope _ mark (omega arith)) (or_left _ _ after (stands_once tail scope _ mark after (omega arith) stands)))
+    or_right _ _ after (if_none (is_mark own mark) _ (omega arith))
+    (or_right _ _ after (none_found body scope _ mark (omega arith)) (or_left _ _ after (stands_once tail scope _ mark after (omega arith) stands)))
 stands_once (Loop own e body tail first others) scope work mark after few (inr (inr (inr stands))) =
     let counted = some_count others scope work mark after stands in
-    or_right _ _ after (if_none (is_mark own mark) _ (omega arith)) (or_right _ _ after (none_found body scope _ mark (omega arith)) (or_right _ _ after (none_found tail scope _ mark (omega arith)) (stands_once others scope work mark after (omega arith) stands)))
+    or_right _ _ after (if_none (is_mark own mark) _ (omega arith))
+    (or_right _ _ after (none_found body scope _ mark (omega arith))
+    (or_right _ _ after (none_found tail scope _ mark (omega arith)) (stands_once others scope work mark after (omega arith) stands)))
 stands_once (Break others) scope work mark after few stands = stands_once others scope work mark after few stands
 stands_once (Continue others) scope work mark after few stands = stands_once others scope work mark after few stands
 stands_once (Return e others) scope work mark after few stands = stands_once others scope work mark after few stands
@@ -143,5 +155,8 @@ pub next_place_once : NextPlaceIsDetermined
 next_place_once f is l e a b c d one other =
     let work = work_once f is l one.work other.work one.from other.from in
     let met = subst (λ (z : Work). met_within one.steps z (spread (scope_of z) f.vars e) ≡ Some (a, c)) work one.met in
-    let same : ◌≡◌ {A = Place × List ℤ} (a, c) (b, d) = (seen_agree (Place × List ℤ) always None at_mark at_exit at_mark-agrees one.steps other.steps 0 other.work (spread (scope_of other.work) f.vars e)).by (a, c) (b, d) met other.met in
+    let same : ◌≡◌ {A = Place × List ℤ} (a, c)
+    (b, d) = (seen_agree (Place
+    × List ℤ) always None at_mark at_exit at_mark-agrees one.steps other.steps 0 other.work (spread (scope_of other.work) f.vars e)).by (a, c)
+    (b, d) met other.met in
     (ap (λ (z : Place × List ℤ). z.0) same, ap (λ (z : Place × List ℤ). z.1) same)

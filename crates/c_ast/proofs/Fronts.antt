@@ -9,7 +9,8 @@ use Rattle.c_ast.specs.declared.stmt.Stmt.{Stmt, Set, If, Loop, Break, Continue,
 use Rattle.c_ast.specs.declared.stmt.Stmt.TheOpen.{Stmt-F}
 use Rattle.c_ast.specs.declared.stmt.Stmt.TheVariants.{outs-Set, outs-If, outs-Loop, outs-Break, outs-Continue, outs-Return, outs-Mark, outs-Block}
 
-level : (s : Stmt) (x : Stmt-F Stmt) (others : Statements) → out-Stmt s ≡ x → put_in_front s others ≡ statement_level (map-Stmt Stmt (Statements → Statements) put_in_front x) others
+level : (s : Stmt) (x : Stmt-F Stmt) (others : Statements) → out-Stmt s ≡ x → put_in_front s others
+    ≡ statement_level (map-Stmt Stmt (Statements → Statements) put_in_front x) others
 level s x others is =
     ap (λ (front : Statements → Statements). front others) (fold_out-Stmt (Statements → Statements) statement_level s)
     ∙ ap (λ (y : Stmt-F Stmt). statement_level (map-Stmt Stmt (Statements → Statements) put_in_front y) others) is
@@ -17,11 +18,13 @@ level s x others is =
 pub front-Set : (x : ℕ) (e : Expr) (others : Statements) → put_in_front (Set x e) others ≡ tree.Set x (expression_of e) others
 front-Set x e others = level (Set x e) _ others (outs-Set x e)
 
-pub front-If : (e : Expr) (a b : List Stmt) (others : Statements) → put_in_front (If e a b) others ≡ tree.If (expression_of e) (statements_of a) (statements_of b) others
+pub front-If : (e : Expr) (a b : List Stmt) (others : Statements) → put_in_front (If e a b) others
+    ≡ tree.If (expression_of e) (statements_of a) (statements_of b) others
 front-If e a b others = level (If e a b) _ others (outs-If e a b)
 
 pub front-Loop : (mark : Option ℕ) (cond : Expr) (body step : List Stmt) (test_first : Bool) (others : Statements)
-    → put_in_front (Loop mark cond body step test_first) others ≡ tree.Loop mark (expression_of cond) (statements_of body) (statements_of step) test_first others
+    → put_in_front (Loop mark cond body step test_first) others
+    ≡ tree.Loop mark (expression_of cond) (statements_of body) (statements_of step) test_first others
 front-Loop mark cond body step test_first others = level (Loop mark cond body step test_first) _ others (outs-Loop mark cond body step test_first)
 
 pub front-Break : (others : Statements) → put_in_front Break others ≡ tree.Break others

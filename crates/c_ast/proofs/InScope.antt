@@ -20,7 +20,8 @@ Agrees scope (Some work) (Some before) = scope_of work ≡ before ++ scope
 Agrees scope None (Some before) = ⊥
 Agrees scope (Some work) None = ⊥
 
-agrees_or : (scope : Scope) (a b : Option Work) (first second : Option Scope) → Agrees scope a first → Agrees scope b second → Agrees scope (or_else a b) (option_or first second)
+agrees_or : (scope : Scope) (a b : Option Work) (first second : Option Scope) → Agrees scope a first → Agrees scope b second
+    → Agrees scope (or_else a b) (option_or first second)
 agrees_or scope None b None second agree_a agree_b = agree_b
 agrees_or scope None b (Some before) second agree_a agree_b = absurd agree_a
 agrees_or scope (Some work) b None second agree_a agree_b = absurd agree_a
@@ -39,9 +40,11 @@ agrees_set x scope (Some work) (Some before) agree = agree ∙ sym (append_assoc
 agrees : (stmts : Statements) (scope : Scope) (work : Work) (mark : ℕ) → Agrees scope (work_after scope stmts work mark) (set_before mark stmts)
 agrees Nil scope work mark = tt
 agrees (Set x e others) scope work mark = agrees_set x scope _ _ (agrees others (x ∷ scope) work mark)
-agrees (If e a b others) scope work mark = agrees_or scope _ _ _ _ (agrees a scope _ mark) (agrees_or scope _ _ _ _ (agrees b scope _ mark) (agrees others scope work mark))
+agrees (If e a b others) scope work mark = agrees_or scope _ _ _ _ (agrees a scope _ mark)
+    (agrees_or scope _ _ _ _ (agrees b scope _ mark) (agrees others scope work mark))
 agrees (Loop own e body tail first others) scope work mark =
-    agrees_or scope _ _ _ _ (agrees_if scope (is_mark own mark) _ refl) (agrees_or scope _ _ _ _ (agrees body scope _ mark) (agrees_or scope _ _ _ _ (agrees tail scope _ mark) (agrees others scope work mark)))
+    agrees_or scope _ _ _ _ (agrees_if scope (is_mark own mark) _ refl)
+    (agrees_or scope _ _ _ _ (agrees body scope _ mark) (agrees_or scope _ _ _ _ (agrees tail scope _ mark) (agrees others scope work mark)))
 agrees (Break others) scope work mark = agrees others scope work mark
 agrees (Continue others) scope work mark = agrees others scope work mark
 agrees (Return e others) scope work mark = agrees others scope work mark
@@ -54,7 +57,8 @@ pub record IsBefore (f : Program) (mark : ℕ) (work : Work) : Type 0 where
   pub found : set_before mark f.body ≡ Some before
   pub scope : scope_of work ≡ before ++ first_variables f.params
 
-found_before : (scope : Scope) (work : Work) (after : Option Work) (found : Option Scope) → after ≡ Some work → Agrees scope after found → (before : Scope) × (found ≡ Some before) × (scope_of work ≡ before ++ scope)
+found_before : (scope : Scope) (work : Work) (after : Option Work) (found : Option Scope) → after ≡ Some work → Agrees scope after found → (before : Scope)
+    × (found ≡ Some before) × (scope_of work ≡ before ++ scope)
 found_before scope work None found is agree = cc
 found_before scope work (Some other) None is agree = absurd agree
 found_before scope work (Some other) (Some before) is agree = let same : other ≡ work = cc in (before, refl, ap scope_of (sym same) ∙ agree)
@@ -65,13 +69,15 @@ is_before f is mark work follows =
     (stands_once f.body (first_variables f.params) [] mark work (is.marked_once mark) follows) (agrees f.body (first_variables f.params) [] mark) in
     record { before = b.0; found = b.1; scope = b.2 }
 
-pub before_some : (f : Program) → IsProgram f → (mark : ℕ) (p : Place) → p ≡ place.Mark mark → IsPlace f p → (found : Option Scope) → found ≡ set_before mark f.body → IsSome found
+pub before_some : (f : Program) → IsProgram f → (mark : ℕ) (p : Place) → p ≡ place.Mark mark → IsPlace f p → (found : Option Scope) → found
+    ≡ set_before mark f.body → IsSome found
 before_some f is mark p p_is is_place found found_is =
     let from = subst (λ (l : Place). GoesOnFrom f l is_place.work) p_is is_place.from in
     let b = is_before f is mark is_place.work from in
     rw (found_is, b.found)
 
-pub set_before_mark : (f : Program) → IsProgram f → (mark : ℕ) (p : Place) → p ≡ place.Mark mark → (found : Scope) → Some found ≡ set_before mark f.body → IsSetBefore f p found
+pub set_before_mark : (f : Program) → IsProgram f → (mark : ℕ) (p : Place) → p ≡ place.Mark mark → (found : Scope) → Some found ≡ set_before mark f.body
+    → IsSetBefore f p found
 set_before_mark f is mark p p_is found found_is = λ work goes_on.
     let from = subst (λ (l : Place). GoesOnFrom f l work) p_is goes_on in
     let b = is_before f is mark work from in
@@ -116,20 +122,31 @@ pub record ListsVariables (scope : Scope) (n x : ℕ) (variables : List ℕ) : T
 pub lists_none : (scope : Scope) (n : ℕ) → ListsVariables scope n 0 []
 lists_none scope n = record { is = (let e : n - 0 ≡ n = omega arith in ap (variables_from scope 0) e) }
 
-variables_from-next : (scope : Scope) (n x : ℕ) → x < n → variables_from scope x (n - x) ≡ with_variable (is_in scope x) x (variables_from scope (suc x) (n - suc x))
+variables_from-next : (scope : Scope) (n x : ℕ) → x < n → variables_from scope x (n - x)
+    ≡ with_variable (is_in scope x) x (variables_from scope (suc x) (n - suc x))
 variables_from-next scope n x below = let e : n - x ≡ suc (n - suc x) = omega arith in ap (variables_from scope x) e
 
-pub lists_one : (scope : Scope) (n x next : ℕ) (variables : List ℕ) → next ≡ suc x → x < n → is_in scope x ≡ true → ListsVariables scope n x variables → ListsVariables scope n next (variables ++ x ∷ [])
+pub lists_one : (scope : Scope) (n x next : ℕ) (variables : List ℕ) → next ≡ suc x → x < n → is_in scope x ≡ true → ListsVariables scope n x variables
+    → ListsVariables scope n next (variables ++ x ∷ [])
 lists_one scope n x next variables next_is below holds lists =
-    record { is = rw next_is (append_assoc variables (x ∷ []) (variables_from scope (suc x) (n - suc x)) ∙ ap (λ (z : List ℕ). variables ++ z) (sym (variables_from-next scope n x below ∙ ap (λ (t : Bool). with_variable t x (variables_from scope (suc x) (n - suc x))) holds)) ∙ lists.is) }
+    record {
+      is = rw next_is (append_assoc variables (x ∷ []) (variables_from scope (suc x) (n - suc x))
+          ∙ ap (λ (z : List ℕ). variables ++ z)
+          (sym (variables_from-next scope n x below ∙ ap (λ (t : Bool). with_variable t x (variables_from scope (suc x) (n - suc x))) holds)) ∙ lists.is);
+    }
 
-pub lists_other : (scope : Scope) (n x next : ℕ) (variables : List ℕ) → next ≡ suc x → x < n → is_in scope x ≡ false → ListsVariables scope n x variables → ListsVariables scope n next variables
+pub lists_other : (scope : Scope) (n x next : ℕ) (variables : List ℕ) → next ≡ suc x → x < n → is_in scope x ≡ false → ListsVariables scope n x variables
+    → ListsVariables scope n next variables
 lists_other scope n x next variables next_is below fails lists =
-    record { is = rw next_is (ap (λ (z : List ℕ). variables ++ z) (sym (variables_from-next scope n x below ∙ ap (λ (t : Bool). with_variable t x (variables_from scope (suc x) (n - suc x))) fails)) ∙ lists.is) }
+    record {
+      is = rw next_is (ap (λ (z : List ℕ). variables ++ z)
+          (sym (variables_from-next scope n x below ∙ ap (λ (t : Bool). with_variable t x (variables_from scope (suc x) (n - suc x))) fails)) ∙ lists.is);
+    }
 
 pub lists_all : (f : Program) (p : Place) (before : Scope) (n x : ℕ) (variables : List ℕ) → n ≡ f.vars → n ≤ x → IsSetBefore f p before
     → ListsVariables (before ++ first_variables f.params) n x variables → AreInScope f p variables
 lists_all f p before n x variables n_is over scope lists = λ work goes_on.
     let e : n - x ≡ 0 = omega arith in
-    let done : variables ≡ variables_in (before ++ first_variables f.params) n = sym (append-nil variables) ∙ ap (λ (k : ℕ). variables ++ variables_from (before ++ first_variables f.params) x k) (sym e) ∙ lists.is in
+    let done : variables ≡ variables_in (before ++ first_variables f.params) n = sym (append-nil variables)
+    ∙ ap (λ (k : ℕ). variables ++ variables_from (before ++ first_variables f.params) x k) (sym e) ∙ lists.is in
     done ∙ ap (λ (k : ℕ). variables_in (before ++ first_variables f.params) k) n_is ∙ ap (λ (s : Scope). variables_in s f.vars) (sym (scope work goes_on))

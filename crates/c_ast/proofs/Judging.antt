@@ -27,18 +27,26 @@ module _ (limit : ℕ) where
   IsRun n = (m : ℕ) (w : Work) (env : List ℤ) (trace : Trace) → m ≤ limit → J n m w env ≡ Some (outcome.Returned trace)
       → (interpreted n m w env ≡ Some (outcome.Returned trace)) × (m + length trace.events ≤ limit)
 
-  next_run : (n m : ℕ) (x : run.Next) (trace : Trace) → IsRun n → m ≤ limit → seen_next evaluates_fitting (Some outcome.Wide) (at_most limit) returned (J n) m x ≡ Some (outcome.Returned trace)
-      → (seen_next evaluates_fitting (Some outcome.Wide) at_event returned (interpreted n) m x ≡ Some (outcome.Returned trace)) × (m + length trace.events ≤ limit)
+  next_run : (n m : ℕ) (x : run.Next) (trace : Trace) → IsRun n → m ≤ limit
+      → seen_next evaluates_fitting (Some outcome.Wide) (at_most limit) returned (J n) m x ≡ Some (outcome.Returned trace)
+      → (seen_next evaluates_fitting (Some outcome.Wide) at_event returned (interpreted n) m x ≡ Some (outcome.Returned trace))
+      × (m + length trace.events ≤ limit)
   next_run n m (run.Goes w env) trace more few is = more m w env trace few is
   next_run n m (run.Passes mark w env) trace more few is = on (nat_lt m limit) refl is
     where
-      on : (t : Bool) → nat_lt m limit ≡ t → cond t (with_first (record { mark = mark; values = values_in (scope_of w) env }) (J n (suc m) w env)) (Some outcome.CutOff) ≡ Some (outcome.Returned trace)
-          → (with_first (record { mark = mark; values = values_in (scope_of w) env }) (interpreted n (suc m) w env) ≡ Some (outcome.Returned trace)) × (m + length trace.events ≤ limit)
+      on : (t : Bool) → nat_lt m limit ≡ t
+          → cond t (with_first (record { mark = mark; values = values_in (scope_of w) env }) (J n (suc m) w env)) (Some outcome.CutOff)
+          ≡ Some (outcome.Returned trace)
+          → (with_first (record { mark = mark; values = values_in (scope_of w) env }) (interpreted n (suc m) w env) ≡ Some (outcome.Returned trace))
+          × (m + length trace.events ≤ limit)
       on true under is =
           let b = behind (record { mark = mark; values = values_in (scope_of w) env }) (J n (suc m) w env) trace is in
           let o = more (suc m) w env b.later (grind (arith, nat_tests)) b.is in
-          let size : length trace.events ≡ suc (length b.later.events) = ap (λ (t : Trace). length t.events) (sym b.whole) in
-          (ap (with_first (record { mark = mark; values = values_in (scope_of w) env })) o.0 ∙ ap (λ t. Some (outcome.Returned t)) b.whole, omega (arith, o.1, size))
+          let size : length trace.events ≡ suc (length b.later.events) = ap (λ (t : Trace). length t.events) (sym b.whole) in (
+            ap (with_first (record { mark = mark; values = values_in (scope_of w) env })) o.0
+                ∙ ap (λ t. Some (outcome.Returned t)) b.whole,
+            omega (arith, o.1, size),
+          )
       on false over is = cc
   next_run n m (run.Ends value) trace more few is =
       let same : no_event value ≡ trace = cc in
@@ -49,8 +57,10 @@ module _ (limit : ℕ) where
   is_run zero m w env trace few is = cc
   is_run (suc n) m w env trace few is = on (evaluates_fitting (evaluated w) env) is (is_run n)
     where
-      on : (t : Bool) → cond t (seen_next evaluates_fitting (Some outcome.Wide) (at_most limit) returned (J n) m (step w env)) (Some outcome.Wide) ≡ Some (outcome.Returned trace) → IsRun n
-          → (cond t (seen_next evaluates_fitting (Some outcome.Wide) at_event returned (interpreted n) m (step w env)) (Some outcome.Wide) ≡ Some (outcome.Returned trace)) × (m + length trace.events ≤ limit)
+      on : (t : Bool) → cond t (seen_next evaluates_fitting (Some outcome.Wide) (at_most limit) returned (J n) m (step w env)) (Some outcome.Wide)
+          ≡ Some (outcome.Returned trace) → IsRun n
+          → (cond t (seen_next evaluates_fitting (Some outcome.Wide) at_event returned (interpreted n) m (step w env)) (Some outcome.Wide)
+          ≡ Some (outcome.Returned trace)) × (m + length trace.events ≤ limit)
       on true is more = next_run n m (step w env) trace more few is
       on false is more = cc
 
@@ -67,7 +77,8 @@ record AfterFirst (event : Event) (o : Option Trace) (trace : Trace) : Type 0 wh
   is : o ≡ Some later
   whole : record { events = event ∷ later.events; result = later.result } ≡ trace
 
-after_first : (j mark : ℕ) (values : List ℤ) (o : Option Trace) (trace : Trace) → with_event j mark values o ≡ Some trace → AfterFirst (record { mark = mark; values = values }) o trace
+after_first : (j mark : ℕ) (values : List ℤ) (o : Option Trace) (trace : Trace) → with_event j mark values o ≡ Some trace
+    → AfterFirst (record { mark = mark; values = values }) o trace
 after_first j mark values None trace is = cc
 after_first j mark values (Some later) trace is = record { later = later; is = refl; whole = (cc) }
 
@@ -88,7 +99,8 @@ module _ (limit : ℕ) where
   abbrev Comes : ℕ → Type 0
   Comes n = (m j : ℕ) (w : Work) (env : List ℤ) (trace : Trace) → m ≤ limit → Traced n j w env ≡ Some trace → ComesOf limit m trace (Seen n m w env)
 
-  comes_first : (m : ℕ) (event : Event) (later trace : Trace) (o : Option Outcome) → record { events = event ∷ later.events; result = later.result } ≡ trace → ComesOf limit (suc m) later o
+  comes_first : (m : ℕ) (event : Event) (later trace : Trace) (o : Option Outcome) → record { events = event ∷ later.events; result = later.result } ≡ trace
+      → ComesOf limit (suc m) later o
       → ComesOf limit m trace (with_first event o)
   comes_first m event later trace o whole comes = on comes
     where
@@ -129,19 +141,23 @@ module _ (limit : ℕ) where
   comes zero m j w env trace few is = cc
   comes (suc n) m j w env trace few is = on (evaluates_fitting (evaluated w) env) (comes n)
     where
-      on : (narrow : Bool) → Comes n → ComesOf limit m trace (cond narrow (seen_next evaluates_fitting (Some outcome.Wide) (at_most limit) returned (Seen n) m (step w env)) (Some outcome.Wide))
+      on : (narrow : Bool) → Comes n
+          → ComesOf limit m trace (cond narrow (seen_next evaluates_fitting (Some outcome.Wide) (at_most limit) returned (Seen n) m (step w env))
+          (Some outcome.Wide))
       on true more = comes_next n m j (step w env) trace more few is
       on false more = comes_wide refl
 
 -- what comes of the run in as many steps as the trace has
 comes_of : (f : Program) (inputs : List ℤ) (limit : ℕ) (trace : Trace) (h : IsTrace f inputs trace)
-    → ComesOf limit 0 trace (seen evaluates_fitting (Some outcome.Wide) (at_most limit) returned h.steps 0 (start f) (spread (first_variables f.params) f.vars inputs))
+    → ComesOf limit 0 trace (seen evaluates_fitting (Some outcome.Wide) (at_most limit) returned h.steps 0 (start f)
+    (spread (first_variables f.params) f.vars inputs))
 comes_of f inputs limit trace h = comes limit h.steps 0 0 (start f) (spread (first_variables f.params) f.vars inputs) trace (omega arith) h.ran
 
 pub trace_is_judged : TraceIsJudged
 trace_is_judged f inputs limit trace h few = on (comes_of f inputs limit trace h)
   where
-    on : ComesOf limit 0 trace (seen evaluates_fitting (Some outcome.Wide) (at_most limit) returned h.steps 0 (start f) (spread (first_variables f.params) f.vars inputs))
+    on : ComesOf limit 0 trace (seen evaluates_fitting (Some outcome.Wide) (at_most limit) returned h.steps 0 (start f)
+        (spread (first_variables f.params) f.vars inputs))
         → IsJudged f inputs limit (outcome.Returned trace) ⊎ IsJudged f inputs limit outcome.Wide
     on (comes_back is within) = inl (record { steps = h.steps; is = is })
     on (comes_wide is) = inr (record { steps = h.steps; is = is })
@@ -150,7 +166,8 @@ trace_is_judged f inputs limit trace h few = on (comes_of f inputs limit trace h
 pub cut_off_passes_more : CutOffPassesMore
 cut_off_passes_more f inputs limit trace cut h = on (comes_of f inputs limit trace h)
   where
-    on : ComesOf limit 0 trace (seen evaluates_fitting (Some outcome.Wide) (at_most limit) returned h.steps 0 (start f) (spread (first_variables f.params) f.vars inputs)) → limit < length trace.events
+    on : ComesOf limit 0 trace (seen evaluates_fitting (Some outcome.Wide) (at_most limit) returned h.steps 0 (start f)
+        (spread (first_variables f.params) f.vars inputs)) → limit < length trace.events
     on (comes_back is within) =
         let same : outcome.CutOff ≡ outcome.Returned trace = judged_once f inputs limit _ _ cut (record { steps = h.steps; is = is }) in
         cc

@@ -3,7 +3,7 @@ use Rattle.std.proofs.Common.{◌≡◌, ℕ, zero, suc, ◌≤◌, Bool, true, 
 use Rattle.c_ast.specs.Tree.{Nil, Set, If, Loop, Break, Continue, Return, Mark, Block}
 use Rattle.c_ast.specs.Value.{eval}
 use Rattle.c_ast.specs.Environments.{MapOfSpread, MapOfValues, SpreadHasLength, HasLength, StepKeepsLength}
-use Rattle.c_ast.specs.Step.{Scope, is_in, Run, Test, Cond, Tail, Work, with_value, values_from, spread_one, spread_from, spread, Next, Goes, Passes, Ends, tested, step}
+use Rattle.c_ast.specs.Step.{Scope, is_in, Run, Test, Cond, Tail, Work, with_value, values_from, spread_one, spread_from, tested}
 
 pub length-values_from : (scope : Scope) (i : ℕ) (a b : List ℤ) → length a ≡ length b
     → length (values_from scope i a) ≡ length (values_from scope i b)

@@ -1,11 +1,10 @@
 -- The marks that stand in the work that is left: a step keeps them, and those of a function's work are the function's.
 use Rattle.std.proofs.Common.{◌≡◌, ℕ, ℤ, Bool, true, false, cond, ◌⊎◌, inl, inr, List, [], ◌∷◌, Option, Some, None, refl, subst}
-use Rattle.c_ast.specs.declared.place.Place.{Place}
 use Rattle.c_ast.specs.declared.place.Place.TheVariants as place
 use Rattle.c_ast.specs.Tree.{Expression, Statements, Nil, Set, If, Loop, Break, Continue, Return, Mark, Block, Program}
 use Rattle.c_ast.specs.Value.{eval, is_nonzero}
-use Rattle.c_ast.specs.Step.{Scope, LoopParts, Item, Run, Test, Cond, Tail, Work, first_variables, Next, Goes, Passes, Ends, past_tail, to_tail, tested, entered, turned, step, start}
-use Rattle.c_ast.specs.Segment.{StandsIn, Follows, GoesOnFrom}
+use Rattle.c_ast.specs.Step.{Scope, LoopParts, Item, Run, Test, Cond, Tail, Work, first_variables, past_tail, to_tail, tested, entered, turned, step}
+use Rattle.c_ast.specs.Segment.{StandsIn, Follows}
 use Rattle.c_ast.specs.Ahead.{WorkHas, IsAhead, IsAheadNext, MarksAreAhead, MarksAreAheadAtStart, MarksStayAhead}
 
 -- Each mark of the later work stands in the earlier one, with the same work behind it.

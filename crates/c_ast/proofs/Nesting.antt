@@ -3,9 +3,9 @@ use Rattle.std.proofs.Common.{ℕ, Bool, true, false, [], ◌∷◌, pos, subst,
 use Rattle.std.specs.Prelude.{◌≤ℤ◌}
 use Rattle.std.proofs.lemmas.Int.{ints}
 use Rattle.c_ast.specs.Tree.{Expression, Statements, Nil, Set, If, Loop, Break, Continue, Return, Mark, Block}
-use Rattle.c_ast.specs.Step.{Scope, is_in, LoopParts, Item, Run, Test, Cond, Tail, Work, item_scope, past_tail, to_tail}
+use Rattle.c_ast.specs.Step.{Scope, is_in, Run, Test, Cond, Tail, Work, item_scope, past_tail, to_tail}
 use Rattle.c_ast.specs.Formed.{IsOver, IsSet, AreFormed}
-use Rattle.c_ast.specs.Agreement.{Within, ReadsInScope, LoopReads, ItemReads, Nested}
+use Rattle.c_ast.specs.Agreement.{Within, ReadsInScope, Nested}
 use Rattle.c_ast.proofs.Agreeing.{within_both}
 
 set_reads : (in_scope : Bool) (scope : Scope) (e : Expression) → IsSet in_scope scope e → IsOver scope e

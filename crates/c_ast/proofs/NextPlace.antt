@@ -148,12 +148,14 @@ Falls n (Goes work env) = ((costs work).on < n) × WorkPasses work
 Falls n (Passes mark work env) = Unit {0}
 Falls n (Ends value) = Unit {0}
 
-falls_if : (holds : Bool) (scope : Scope) (e : Expression) (a b others : Statements) (work : Work) (env : List ℤ) → PassMarks a × PassMarks b × PassMarks others → WorkPasses work
+falls_if : (holds : Bool) (scope : Scope) (e : Expression) (a b others : Statements) (work : Work) (env : List ℤ) → PassMarks a × PassMarks b
+    × PassMarks others → WorkPasses work
     → Falls (costs (Run scope (If e a b others) ∷ work)).on (Goes (Run scope (cond holds a b) ∷ Run scope others ∷ work) env)
 falls_if true scope e a b others work env passes behind = (omega arith, (passes.0, (passes.2, behind)))
 falls_if false scope e a b others work env passes behind = (omega arith, (passes.1, (passes.2, behind)))
 
-falls_enter : (first : Bool) (scope : Scope) (own : Option ℕ) (e : Expression) (body tail others : Statements) (work : Work) (env : List ℤ) → PassesMark own body × PassMarks body × PassMarks tail × PassMarks others → WorkPasses work
+falls_enter : (first : Bool) (scope : Scope) (own : Option ℕ) (e : Expression) (body tail others : Statements) (work : Work) (env : List ℤ)
+    → PassesMark own body × PassMarks body × PassMarks tail × PassMarks others → WorkPasses work
     → Falls (costs (Run scope (Loop own e body tail first others) ∷ work)).on (Goes (entered first scope (record { mark = own; cond = e; body = body; step = tail }) (Run scope others ∷ work)) env)
 falls_enter true scope own e body tail others work env passes behind = (omega arith, (record { turn = passes.0; body = passes.1; step = passes.2 }, (passes.3, behind)))
 falls_enter false scope own e body tail others work env passes behind = (omega arith, (passes.1, (record { turn = passes.0; body = passes.1; step = passes.2 }, (passes.3, behind))))
@@ -163,7 +165,8 @@ falls_test : (own : Option ℕ) (scope : Scope) (loop : LoopParts) (work : Work)
 falls_test (Some mark) scope loop work env is passes behind = tt
 falls_test None scope loop work env is passes behind =
     let front : BeginsWithMark loop.body = rw is at passes.turn in
-    let same : cost loop.body (loop_tail loop (costs work)) (costs work).on (loop_tail loop (costs work)) ≡ cost loop.body 0 0 0 = cost-front loop.body front _ _ _ _ _ _ in
+    let same : cost loop.body (loop_tail loop (costs work)) (costs work).on (loop_tail loop (costs work))
+    ≡ cost loop.body 0 0 0 = cost-front loop.body front _ _ _ _ _ _ in
     let test : loop_test loop (costs work).on ≡ 2 + (cost loop.body 0 0 0 + (costs work).on) = rw is in
     (omega arith, (passes, behind))
 
@@ -201,16 +204,19 @@ record MeetsNext (n : ℕ) (next : Next) : Type 0 where
 
 meets : (n : ℕ) (work : Work) (env : List ℤ) → (costs work).on < n → WorkPasses work → Meets n work env
 meets zero work env below passes = absurd (omega arith)
-meets (suc n) work env below passes = let met = on (step work env) (falls work env passes) (λ work env. meets n work env) in record { l = met.l; e = met.e; met = met.met }
+meets (suc n) work env below passes = let met = on (step work env) (falls work env passes)
+    (λ work env. meets n work env) in record { l = met.l; e = met.e; met = met.met }
   where
-    on : (next : Next) → Falls (costs work).on next → ((after : Work) (env : List ℤ) → (costs after).on < n → WorkPasses after → Meets n after env) → MeetsNext n next
+    on : (next : Next) → Falls (costs work).on next → ((after : Work) (env : List ℤ) → (costs after).on < n → WorkPasses after → Meets n after env)
+        → MeetsNext n next
     on (Goes after env) falls_on later = let met = later after env (omega arith) falls_on.1 in record { l = met.l; e = met.e; met = met.met }
     on (Passes mark after env) falls_on later = record { l = place.Mark mark; e = values_in (scope_of after) env; met = refl }
     on (Ends value) falls_on later = record { l = place.Exit; e = value ∷ []; met = refl }
 
 -- ---- the work after a mark
 
-stands_passes : (stmts : Statements) (scope : Scope) (work : Work) (mark : ℕ) (after : Work) → PassMarks stmts → WorkPasses work → StandsIn scope stmts work mark after → WorkPasses after
+stands_passes : (stmts : Statements) (scope : Scope) (work : Work) (mark : ℕ) (after : Work) → PassMarks stmts → WorkPasses work
+    → StandsIn scope stmts work mark after → WorkPasses after
 stands_passes Nil scope work mark after passes behind stands = absurd stands
 stands_passes (Set x e others) scope work mark after passes behind stands = stands_passes others (x ∷ scope) work mark after passes behind stands
 stands_passes (If e a b others) scope work mark after passes behind (inl stands) = stands_passes a scope _ mark after passes.0 (passes.2, behind) stands

@@ -24,12 +24,14 @@ behind event (Some (outcome.Returned later)) trace is = record { later = later; 
 behind event (Some outcome.Wide) trace is = cc
 behind event (Some outcome.CutOff) trace is = cc
 
-trace_seen : (n i j : ℕ) (w : Work) (env : List ℤ) (trace : Trace) → interpreted n i w env ≡ Some (outcome.Returned trace) → seen always None with_event no_event n j w env ≡ Some trace
+trace_seen : (n i j : ℕ) (w : Work) (env : List ℤ) (trace : Trace) → interpreted n i w env ≡ Some (outcome.Returned trace)
+    → seen always None with_event no_event n j w env ≡ Some trace
 trace_seen zero i j w env trace is = cc
 trace_seen (suc n) i j w env trace is = at (evaluates_fitting (evaluated w) env) is (λ i j. trace_seen n i j)
   where
     on : (x : run.Next) → seen_next evaluates_fitting (Some outcome.Wide) at_event returned (interpreted n) i x ≡ Some (outcome.Returned trace)
-        → ((i j : ℕ) (w : Work) (env : List ℤ) (trace : Trace) → interpreted n i w env ≡ Some (outcome.Returned trace) → seen always None with_event no_event n j w env ≡ Some trace)
+        → ((i j : ℕ) (w : Work) (env : List ℤ) (trace : Trace) → interpreted n i w env ≡ Some (outcome.Returned trace)
+        → seen always None with_event no_event n j w env ≡ Some trace)
         → seen_next always None with_event no_event (seen always None with_event no_event n) j x ≡ Some trace
     on (run.Goes w env) is later = later i j w env trace is
     on (run.Passes k w env) is later =
@@ -37,8 +39,10 @@ trace_seen (suc n) i j w env trace is = at (evaluates_fitting (evaluated w) env)
         ap (with_event j k (values_in (scope_of w) env)) (later (suc i) (suc j) w env b.later b.is) ∙ ap Some b.whole
     on (run.Ends v) is later = let same : no_event v ≡ trace = cc in ap Some same
 
-    at : (t : Bool) → cond t (seen_next evaluates_fitting (Some outcome.Wide) at_event returned (interpreted n) i (step w env)) (Some outcome.Wide) ≡ Some (outcome.Returned trace)
-        → ((i j : ℕ) (w : Work) (env : List ℤ) (trace : Trace) → interpreted n i w env ≡ Some (outcome.Returned trace) → seen always None with_event no_event n j w env ≡ Some trace)
+    at : (t : Bool) → cond t (seen_next evaluates_fitting (Some outcome.Wide) at_event returned (interpreted n) i (step w env)) (Some outcome.Wide)
+        ≡ Some (outcome.Returned trace)
+        → ((i j : ℕ) (w : Work) (env : List ℤ) (trace : Trace) → interpreted n i w env ≡ Some (outcome.Returned trace)
+        → seen always None with_event no_event n j w env ≡ Some trace)
         → seen_next always None with_event no_event (seen always None with_event no_event n) j (step w env) ≡ Some trace
     at true is later = on (step w env) is later
     at false is later = cc
@@ -50,5 +54,7 @@ not_cut_off (Some o) trace is = ap Some is
 pub outcome_is_trace : OutcomeIsTrace
 outcome_is_trace f inputs steps trace is = record {
   steps = steps;
-  ran = trace_seen steps 0 0 (start f) (spread (first_variables f.params) f.vars inputs) trace (not_cut_off (interpreted steps 0 (start f) (spread (first_variables f.params) f.vars inputs)) trace is);
+  ran = trace_seen steps 0 0 (start f)
+      (spread (first_variables f.params) f.vars inputs) trace (not_cut_off (interpreted steps 0 (start f)
+      (spread (first_variables f.params) f.vars inputs)) trace is);
 }

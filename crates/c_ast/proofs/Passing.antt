@@ -37,7 +37,8 @@ values_agree scope i [] [] long same = refl
 values_agree scope i [] (w ∷ b) long same = cc
 values_agree scope i (v ∷ a) [] long same = cc
 values_agree scope i (v ∷ a) (w ∷ b) long same =
-    at (is_in scope i) refl (values_agree scope (suc i) a b (omega arith) (λ x inside. same (suc x) (let e : i + suc x ≡ suc i + x = omega arith in rw e inside)))
+    at (is_in scope i) refl (values_agree scope (suc i) a b (omega arith)
+    (λ x inside. same (suc x) (let e : i + suc x ≡ suc i + x = omega arith in rw e inside)))
   where
     at : (t : Bool) → is_in scope i ≡ t → values_from scope (suc i) a ≡ values_from scope (suc i) b
         → with_value t v (values_from scope (suc i) a) ≡ with_value t w (values_from scope (suc i) b)
@@ -47,7 +48,8 @@ values_agree scope i (v ∷ a) (w ∷ b) long same =
     at false is others = others
 
 agree_values : (n : ℕ) (scope : Scope) (a b : List ℤ) → Agree n scope a b → values_in scope a ≡ values_in scope b
-agree_values n scope a b same = values_agree scope 0 a b (same.left ∙ sym same.right) (λ x inside. same.agree x (let e : 0 + x ≡ x = omega arith in rw e at inside))
+agree_values n scope a b same = values_agree scope 0 a b (same.left ∙ sym same.right)
+    (λ x inside. same.agree x (let e : 0 + x ≡ x = omega arith in rw e at inside))
 
 agree_back : (n : ℕ) (scope : Scope) (a b : List ℤ) → Agree n scope a b → Agree n scope b a
 agree_back n scope a b same = record { left = same.right; right = same.left; agree = λ x inside. sym (same.agree x inside) }
@@ -240,7 +242,11 @@ module _ (f : Program) where
         let is : (place.Exit, u ∷ []) ≡ met = cc in
         let here = subst (λ (z : Met). Leads z.0 z.1 [] result) (sym is) leads in
         let value : u ≡ result = (let same = here.1 in cc) in
-        record { steps = 1; ran = λ marks. ap (seen_next always None with_event no_event (trace_after 0) marks) e ∙ ap (λ (z : ℤ). Some (trace_of [] z)) (sym alike ∙ value) }
+        record {
+          steps = 1;
+          ran = λ marks. ap (seen_next always None with_event no_event (trace_after 0) marks) e
+              ∙ ap (λ (z : ℤ). Some (trace_of [] z)) (sym alike ∙ value);
+        }
     at_step (event ∷ events) steps met (Ends u) (Ends v) fewer joins ran alike leads work b e =
         let is : (place.Exit, u ∷ []) ≡ met = cc in
         let here = subst (λ (z : Met). Leads z.0 z.1 (event ∷ events) result) (sym is) leads in
@@ -268,7 +274,8 @@ module _ (f : Program) where
       let a = spread (first_variables f.params) f.vars inputs in
       let next = first_of place.Entry inputs trace.events trace.result leads in
       let met = subst (λ (z : Work). met_within next.segment.steps z (spread (scope_of z) f.vars inputs) ≡ Some next.met) next.segment.from next.segment.met in
-      let out = joins formed trace.result trace.events next.segment.steps (start f) (first_variables f.params) a a next.met (at_start formed inputs) met next.leads in
+      let out = joins formed trace.result trace.events next.segment.steps (start f)
+      (first_variables f.params) a a next.met (at_start formed inputs) met next.leads in
       record { steps = out.steps; ran = out.ran 0 }
 
 pub trace_is_segments : TraceIsSegments

@@ -33,7 +33,8 @@ meets_fitting f zero work env l e ahead long met = cc
 meets_fitting f (suc n) work env l e ahead long met =
     on (step work env) (ahead_next f work env ahead) (length-step f.vars work env long) met (λ work env. meets_fitting f n work env l e)
   where
-    on : (next : Next) → IsAheadNext f next → HasLength f.vars next → seen_next always None at_mark at_exit (seen always None at_mark at_exit n) 0 next ≡ Some (l, e)
+    on : (next : Next) → IsAheadNext f next → HasLength f.vars next → seen_next always None at_mark at_exit (seen always None at_mark at_exit n) 0 next
+        ≡ Some (l, e)
         → ((work : Work) (env : List ℤ) → IsAhead f work → length env ≡ f.vars → met_within n work env ≡ Some (l, e) → FitsPlace f l e) → FitsPlace f l e
     on (Goes work env) ahead long met later = later work env ahead long met
     on (Passes mark work env) ahead long met later =
@@ -67,8 +68,10 @@ trace_fitting f few zero marks work env trace ahead long ran = cc
 trace_fitting f few (suc n) marks work env trace ahead long ran =
     on (step work env) (ahead_next f work env ahead) (length-step f.vars work env long) ran (λ marks work env. trace_fitting f few n marks work env)
   where
-    on : (next : Next) → IsAheadNext f next → HasLength f.vars next → seen_next always None with_event no_event (seen always None with_event no_event n) marks next ≡ Some trace
-        → ((marks : ℕ) (work : Work) (env : List ℤ) (trace : Trace) → IsAhead f work → length env ≡ f.vars → seen always None with_event no_event n marks work env ≡ Some trace → All (FitsEvent f) trace.events)
+    on : (next : Next) → IsAheadNext f next → HasLength f.vars next
+        → seen_next always None with_event no_event (seen always None with_event no_event n) marks next ≡ Some trace
+        → ((marks : ℕ) (work : Work) (env : List ℤ) (trace : Trace) → IsAhead f work → length env ≡ f.vars
+        → seen always None with_event no_event n marks work env ≡ Some trace → All (FitsEvent f) trace.events)
         → All (FitsEvent f) trace.events
     on (Goes work env) ahead long ran later = later marks work env trace ahead long ran
     on (Passes mark work env) ahead long ran later =

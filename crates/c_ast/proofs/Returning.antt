@@ -34,22 +34,28 @@ below-is_in : (n x : ℕ) → is_in (first_variables n) x ≡ true → x < n
 below-is_in n x is = elim (cases_lt x n) [ inl below ↦ below | inr above ↦ absurd (cc (is, is_in-above n x above)) ]
 
 -- past the variables in scope there are zeros
-spread_from-past : (scope : Scope) (i n : ℕ) (values : List ℤ) → ((x : ℕ) → i ≤ x → is_in scope x ≡ false) → spread_from (pos 0) scope i n values ≡ replicate n (pos 0)
+spread_from-past : (scope : Scope) (i n : ℕ) (values : List ℤ) → ((x : ℕ) → i ≤ x → is_in scope x ≡ false) → spread_from (pos 0) scope i n values
+    ≡ replicate n (pos 0)
 spread_from-past scope i zero values none = refl
-spread_from-past scope i (suc n) values none = rw (none i (omega arith)) (ap (λ (l : List ℤ). pos 0 ∷ l) (spread_from-past scope (suc i) n values (λ x le. none x (omega arith))))
+spread_from-past scope i (suc n) values none = rw (none i (omega arith))
+    (ap (λ (l : List ℤ). pos 0 ∷ l) (spread_from-past scope (suc i) n values (λ x le. none x (omega arith))))
 
 spread_from-first : (scope : Scope) (i n : ℕ) (values : List ℤ) → ((x : ℕ) → i ≤ x → x < i + length values → is_in scope x ≡ true)
-    → ((x : ℕ) → i + length values ≤ x → is_in scope x ≡ false) → length values ≤ n → spread_from (pos 0) scope i n values ≡ values ++ replicate (n - length values) (pos 0)
+    → ((x : ℕ) → i + length values ≤ x → is_in scope x ≡ false) → length values ≤ n → spread_from (pos 0) scope i n values
+    ≡ values ++ replicate (n - length values) (pos 0)
 spread_from-first scope i n [] all none le = let whole : n - 0 ≡ n = omega arith in rw whole (spread_from-past scope i n [] (λ x le. none x (omega arith)))
 spread_from-first scope i zero (v ∷ values) all none le = absurd (omega arith)
 spread_from-first scope i (suc n) (v ∷ values) all none le =
     let here : is_in scope i ≡ true = all i (omega arith) (omega arith) in
     let less : suc n - suc (length values) ≡ n - length values = omega arith in
-    rw (here, less) (ap (λ (l : List ℤ). v ∷ l) (spread_from-first scope (suc i) n values (λ x le lt. all x (omega arith) (omega arith)) (λ x le. none x (omega arith)) (omega arith)))
+    rw (here, less) (ap (λ (l : List ℤ). v ∷ l)
+    (spread_from-first scope (suc i) n values (λ x le lt. all x (omega arith) (omega arith)) (λ x le. none x (omega arith)) (omega arith)))
 
-spread-parameters : (n vars : ℕ) (values : List ℤ) → length values ≡ n → n ≤ vars → spread (first_variables n) vars values ≡ values ++ replicate (vars - n) (pos 0)
+spread-parameters : (n vars : ℕ) (values : List ℤ) → length values ≡ n → n ≤ vars → spread (first_variables n) vars values
+    ≡ values ++ replicate (vars - n) (pos 0)
 spread-parameters n vars values len le =
-    let front = spread_from-first (first_variables n) 0 vars values (λ x low high. is_in-below n x (omega arith)) (λ x past. is_in-above n x (omega arith)) (omega arith) in
+    let front = spread_from-first (first_variables n) 0 vars values (λ x low high. is_in-below n x (omega arith)) (λ x past. is_in-above n x (omega arith))
+    (omega arith) in
     subst (λ (k : ℕ). spread (first_variables n) vars values ≡ values ++ replicate (vars - k) (pos 0)) len front
 
 -- ---- an expression over the parameters
@@ -71,7 +77,8 @@ eval-append values others (Cond c e f) below = rw (eval-append values others c b
 
 -- ---- one step
 
-result_within-Return : (scope : Scope) (e : Expression) (steps : ℕ) (env : List ℤ) (value : ℤ) → result_within steps (Run scope (Return e Nil) ∷ []) env ≡ Some value → value ≡ eval e env
+result_within-Return : (scope : Scope) (e : Expression) (steps : ℕ) (env : List ℤ) (value : ℤ) → result_within steps (Run scope (Return e Nil) ∷ []) env
+    ≡ Some value → value ≡ eval e env
 result_within-Return scope e zero env value ends = absurd cc
 result_within-Return scope e (suc steps) env value ends = cc
 

@@ -66,7 +66,8 @@ turns = record {
   vars = 3;
   body =
       Set 1 (Num (pos 0)) (Loop (Some 3) (Bin Less (Var 1) (Var 0))
-      (Set 2 (Num (pos 0)) (Set 2 (Bin Add (Var 2) (Num (pos 1))) (Set 1 (Bin Add (Var 1) (Var 2)) (If (Num (pos 1)) (Continue Nil) Nil (Set 1 (Num (pos 9)) Nil))))) Nil false Nil);
+      (Set 2 (Num (pos 0)) (Set 2 (Bin Add (Var 2) (Num (pos 1)))
+      (Set 1 (Bin Add (Var 1) (Var 2)) (If (Num (pos 1)) (Continue Nil) Nil (Set 1 (Num (pos 9)) Nil))))) Nil false Nil);
 }
 
 -- The body of a `do` runs before its test, where a `continue` leads, and its variable is not in scope there; declared again

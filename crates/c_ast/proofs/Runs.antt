@@ -24,14 +24,18 @@ pub record KeepsAgreement (R : Type 0) (pass : ℕ → ℕ → List ℤ → Opti
   pub by : (marks mark : ℕ) (values : List ℤ) (a b : Option R) → Agree R a b → Agree R (pass marks mark values a) (pass marks mark values b)
 
 -- whatever is tested
-module _ (R : Type 0) (holds : Option Expression → List ℤ → Bool) (failed : Option R) (pass : ℕ → ℕ → List ℤ → Option R → Option R) (done : ℤ → R) (keeps : KeepsAgreement R pass) where
-  pub seen_agree : (i j marks : ℕ) (work : Work) (env : List ℤ) → Agree R (seen holds failed pass done i marks work env) (seen holds failed pass done j marks work env)
+module _ (R : Type 0) (holds : Option Expression → List ℤ → Bool) (failed : Option R) (pass : ℕ → ℕ → List ℤ → Option R → Option R) (done : ℤ → R)
+    (keeps : KeepsAgreement R pass) where
+  pub seen_agree : (i j marks : ℕ) (work : Work) (env : List ℤ)
+      → Agree R (seen holds failed pass done i marks work env) (seen holds failed pass done j marks work env)
   seen_agree zero j marks work env = record { by = λ v w p q. cc }
   seen_agree (suc i) zero marks work env = record { by = λ v w p q. cc }
   seen_agree (suc i) (suc j) marks work env = at (holds (evaluated work) env) (λ m. seen_agree i j m)
     where
-      on : (next : Next) → ((m : ℕ) (work : Work) (env : List ℤ) → Agree R (seen holds failed pass done i m work env) (seen holds failed pass done j m work env))
-          → Agree R (seen_next holds failed pass done (seen holds failed pass done i) marks next) (seen_next holds failed pass done (seen holds failed pass done j) marks next)
+      on : (next : Next) → ((m : ℕ) (work : Work) (env : List ℤ)
+          → Agree R (seen holds failed pass done i m work env) (seen holds failed pass done j m work env))
+          → Agree R (seen_next holds failed pass done (seen holds failed pass done i) marks next)
+          (seen_next holds failed pass done (seen holds failed pass done j) marks next)
       on (Goes work env) later = later marks work env
       on (Passes mark work env) later = keeps.by marks mark (values_in (scope_of work) env) _ _ (later (suc marks) work env)
       on (Ends value) later = record { by = λ v w p q. cc }
@@ -48,7 +52,8 @@ no_mark-agrees = record { by = λ marks mark values a b same. same }
 with_event-agrees : KeepsAgreement Trace with_event
 with_event-agrees = record { by = λ marks mark values a b same. both marks mark values a b same }
   where
-    both : (marks mark : ℕ) (values : List ℤ) (a b : Option Trace) → Agree Trace a b → Agree Trace (with_event marks mark values a) (with_event marks mark values b)
+    both : (marks mark : ℕ) (values : List ℤ) (a b : Option Trace) → Agree Trace a b
+        → Agree Trace (with_event marks mark values a) (with_event marks mark values b)
     both marks mark values None b same = record { by = λ v w p q. cc }
     both marks mark values (Some s) None same = record { by = λ v w p q. cc }
     both marks mark values (Some s) (Some t) same = record { by = λ v w p q. let equal : s ≡ t = same.by s t refl refl in cc }
@@ -56,7 +61,8 @@ with_event-agrees = record { by = λ marks mark values a b same. both marks mark
 with_first-agrees : (event : Event) (a b : Option Outcome) → Agree Outcome a b → Agree Outcome (with_first event a) (with_first event b)
 with_first-agrees event None b same = record { by = λ o p h k. cc }
 with_first-agrees event (Some u) None same = record { by = λ o p h k. cc }
-with_first-agrees event (Some u) (Some v) same = record { by = λ o p h k. let both : Some o ≡ Some p = sym h ∙ ap (λ w. with_first event (Some w)) (same.by u v refl refl) ∙ k in cc }
+with_first-agrees event (Some u)
+    (Some v) same = record { by = λ o p h k. let both : Some o ≡ Some p = sym h ∙ ap (λ w. with_first event (Some w)) (same.by u v refl refl) ∙ k in cc }
 
 pub at_most-agrees : (limit : ℕ) → KeepsAgreement Outcome (at_most limit)
 at_most-agrees limit = record { by = λ marks mark values a b same. on (nat_lt marks limit) (record { mark = mark; values = values }) a b same }
@@ -74,7 +80,8 @@ one_trace f inputs s t p q = (seen_agree Trace always None with_event no_event w
 
 -- what a run is judged to be is determined
 pub judged_once : IsJudgedOnce
-judged_once f inputs limit o p h k = (seen_agree Outcome evaluates_fitting (Some outcome.Wide) (at_most limit) returned (at_most-agrees limit) h.steps k.steps 0 _ _).by o p h.is k.is
+judged_once f inputs limit o p h k = (seen_agree Outcome evaluates_fitting (Some outcome.Wide)
+    (at_most limit) returned (at_most-agrees limit) h.steps k.steps 0 _ _).by o p h.is k.is
 
 -- ---- the result of a trace
 
@@ -87,13 +94,16 @@ unfolding result_of
 result_of-with_event marks mark values None = refl
 result_of-with_event marks mark values (Some trace) = refl
 
-result_seen : (n i j : ℕ) (work : Work) (env : List ℤ) → seen always None no_mark as_it_is n i work env ≡ result_of (seen always None with_event no_event n j work env)
+result_seen : (n i j : ℕ) (work : Work) (env : List ℤ) → seen always None no_mark as_it_is n i work env
+    ≡ result_of (seen always None with_event no_event n j work env)
 unfolding result_of
 result_seen zero i j work env = refl
 result_seen (suc n) i j work env = on (step work env) (λ i j. result_seen n i j)
   where
-    on : (next : Next) → ((i j : ℕ) (work : Work) (env : List ℤ) → seen always None no_mark as_it_is n i work env ≡ result_of (seen always None with_event no_event n j work env))
-        → seen_next always None no_mark as_it_is (seen always None no_mark as_it_is n) i next ≡ result_of (seen_next always None with_event no_event (seen always None with_event no_event n) j next)
+    on : (next : Next) → ((i j : ℕ) (work : Work) (env : List ℤ) → seen always None no_mark as_it_is n i work env
+        ≡ result_of (seen always None with_event no_event n j work env))
+        → seen_next always None no_mark as_it_is (seen always None no_mark as_it_is n) i next
+        ≡ result_of (seen_next always None with_event no_event (seen always None with_event no_event n) j next)
     on (Goes work env) later = later i j work env
     on (Passes mark work env) later = later (suc i) (suc j) work env ∙ sym (result_of-with_event j mark (values_in (scope_of work) env) _)
     on (Ends value) later = refl
@@ -115,5 +125,9 @@ trace_returns f inputs value =
           let found = some_trace (trace_within returns.steps (start f) env) value (sym (result_seen returns.steps 0 0 (start f) env) ∙ returns.ends) in
           (found.0, record { steps = returns.steps; ran = found.1 }, found.2),
       λ (trace, is, result).
-          record { steps = is.steps; ends = result_seen is.steps 0 0 (start f) env ∙ trace_result (trace_within is.steps (start f) env) trace is.ran ∙ ap Some result },
+          record {
+            steps = is.steps;
+            ends = result_seen is.steps 0 0 (start f) env ∙ trace_result (trace_within is.steps (start f) env) trace is.ran
+                ∙ ap Some result;
+          },
     )

@@ -1,11 +1,10 @@
 -- Where the variables in scope are among the first n, so are those that expressions read there.
 use Rattle.std.proofs.lemmas.Bool.{eqb-true}
-use Rattle.std.proofs.Common.{◌≡◌, ℕ, zero, suc, ◌<◌, ◌≤◌, Bool, true, false, eqb, ◌||◌, ◌∷◌, refl, sym, subst, arith}
-use Rattle.c_ast.specs.Tree.{Expression, Num, Var, Un, Bin, Cond}
+use Rattle.std.proofs.Common.{◌≡◌, ℕ, zero, suc, ◌<◌, Bool, true, false, eqb, ◌||◌, refl, sym, subst, arith}
+use Rattle.c_ast.specs.Tree.{Num, Var, Un, Bin, Cond}
 use Rattle.c_ast.specs.Value.{CanEvaluate}
-use Rattle.c_ast.specs.Step.{Scope, is_in, first_variables}
-use Rattle.c_ast.specs.Formed.{IsOver, IsSet}
-use Rattle.c_ast.specs.Environments.{IsBelow, OverCanEvaluate, SetCanEvaluate, SetStaysBelow, ParametersAreBelow}
+use Rattle.c_ast.specs.Step.{is_in, first_variables}
+use Rattle.c_ast.specs.Environments.{OverCanEvaluate, SetCanEvaluate, SetStaysBelow, ParametersAreBelow}
 
 pub over_below : OverCanEvaluate
 over_below (Num z) n s below over = tt

@@ -2,9 +2,8 @@
 use Rattle.std.proofs.Common.{◌≡◌, ℕ, Bool, true, false, cond, inl, List, [], ◌∷◌, Option, Some, None, ℤ, refl, ap}
 use Rattle.c_ast.specs.Tree.{Expression, Statements, Nil, Set, If, Loop, Break, Continue, Return, Mark, Block, Program}
 use Rattle.c_ast.specs.Value.{eval, is_nonzero}
-use Rattle.c_ast.specs.Step.{Scope, LoopParts, Run, Test, Cond, Tail, Work, scope_of, Next, Goes, Passes, Ends, tested, entered, turned, step}
-use Rattle.c_ast.specs.Segment.{Follows}
-use Rattle.c_ast.specs.Agreement.{Agree, Nested, IsReady, AreAlike, StepsAreAlike}
+use Rattle.c_ast.specs.Step.{Scope, LoopParts, Run, Test, Cond, Tail, Work, Goes, tested, entered, turned, step}
+use Rattle.c_ast.specs.Agreement.{Agree, Nested, IsReady, AreAlike}
 use Rattle.c_ast.proofs.Agreeing.{within_itself, within_more, agree_within, eval_agree, agree_set}
 use Rattle.c_ast.proofs.Nesting.{nested_within, nested-past_tail, nested-to_tail}
 use Rattle.c_ast.specs.Ahead.{IsAhead}

@@ -33,11 +33,13 @@ WorkIsDetermined = (f : Program) → IsProgram f → (l : Place) (v w : Work) �
 
 -- From a place with any values at most one place is met next, with one list of values.
 abbrev pub NextPlaceIsDetermined : Type 0
-NextPlaceIsDetermined = (f : Program) → IsProgram f → (l : Place) (e : List ℤ) (a b : Place) (c d : List ℤ) → IsSegment f l e a c → IsSegment f l e b d → (a ≡ b) × (c ≡ d)
+NextPlaceIsDetermined = (f : Program) → IsProgram f → (l : Place) (e : List ℤ) (a b : Place) (c d : List ℤ) → IsSegment f l e a c → IsSegment f l e b d
+    → (a ≡ b) × (c ≡ d)
 
 -- From the entry and from each mark, with any values, a place is met next: every turn of a loop passes a mark.
 abbrev pub NextPlaceExists : Type 0
-NextPlaceExists = (f : Program) → IsProgram f → (l : Place) (e : List ℤ) (work : Work) → GoesOnFrom f l work → (l' : Place) × (e' : List ℤ) × IsSegment f l e l' e'
+NextPlaceExists = (f : Program) → IsProgram f → (l : Place) (e : List ℤ) (work : Work) → GoesOnFrom f l work → (l' : Place) × (e' : List ℤ)
+    × IsSegment f l e l' e'
 
 -- The values with which a place is met are as many as the variables in scope there.
 abbrev pub MeetsFittingValues : Type 0
@@ -74,11 +76,13 @@ IsJudgedOnce = (f : Program) (inputs : List ℤ) (limit : ℕ) (o p : Outcome) �
 
 -- A trace that comes of a run with a limit is the function's, and passes at most so many marks.
 abbrev pub JudgedIsTrace : Type 0
-JudgedIsTrace = (f : Program) (inputs : List ℤ) (limit : ℕ) (trace : Trace) → IsJudged f inputs limit (outcome.Returned trace) → IsTrace f inputs trace × (length trace.events ≤ limit)
+JudgedIsTrace = (f : Program) (inputs : List ℤ) (limit : ℕ) (trace : Trace) → IsJudged f inputs limit (outcome.Returned trace) → IsTrace f inputs trace
+    × (length trace.events ≤ limit)
 
 -- Where a run is cut off, a trace of the function passes more marks than the limit.
 abbrev pub CutOffPassesMore : Type 0
-CutOffPassesMore = (f : Program) (inputs : List ℤ) (limit : ℕ) (trace : Trace) → IsJudged f inputs limit outcome.CutOff → IsTrace f inputs trace → limit < length trace.events
+CutOffPassesMore = (f : Program) (inputs : List ℤ) (limit : ℕ) (trace : Trace) → IsJudged f inputs limit outcome.CutOff → IsTrace f inputs trace
+    → limit < length trace.events
 
 -- Where a trace of the function passes at most so many marks, the run returns it or meets a wide value.
 abbrev pub TraceIsJudged : Type 0

@@ -16,6 +16,7 @@ pub mod Segment
 pub mod Formed
 pub mod Bounds
 pub mod Comparison
+pub mod Compares
 pub mod Passing
 pub mod Ahead
 pub mod Agreement

@@ -4,7 +4,7 @@ use Rattle.c_ast.specs.declared.trace.Event.{Event}
 use Rattle.c_ast.specs.declared.trace.Outcome.{Outcome}
 use Rattle.c_ast.specs.declared.trace.Outcome.TheVariants as outcome
 use Rattle.c_ast.specs.Tree.{Program}
-use Rattle.c_ast.specs.Step.{Work, scope_of, values_in, first_variables, start, spread, seen}
+use Rattle.c_ast.specs.Step.{Work, first_variables, start, spread, seen}
 use Rattle.c_ast.specs.Trace.{no_event}
 use Rattle.c_ast.specs.FitsRun.{evaluates_fitting}
 

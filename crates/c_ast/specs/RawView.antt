@@ -56,7 +56,8 @@ raw_statement_level (RawStmt-F.Assign name line e) others = tree.Assign name lin
 raw_statement_level (RawStmt-F.If cond first second) others = raw_branches (raw_expression_of cond) (raw_one first) second others
 raw_statement_level (RawStmt-F.While cond body) others = tree.While (raw_condition_of cond) (raw_one body) others
 raw_statement_level (RawStmt-F.Do body cond) others = tree.Do (raw_one body) (raw_condition_of cond) others
-raw_statement_level (RawStmt-F.For init cond step body) others = tree.For (raw_optional init) (option_map raw_condition_of cond) (raw_optional step) (raw_one body) others
+raw_statement_level (RawStmt-F.For init cond step body) others = tree.For (raw_optional init) (option_map raw_condition_of cond) (raw_optional step)
+    (raw_one body) others
 raw_statement_level (RawStmt-F.Break line) others = tree.Break line others
 raw_statement_level (RawStmt-F.Continue line) others = tree.Continue line others
 raw_statement_level (RawStmt-F.Return e) others = tree.Return (raw_expression_of e) others

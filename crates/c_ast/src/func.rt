@@ -1,5 +1,6 @@
-//! A function whose names are resolved. Its variables are numbered from 0: the parameters come first, then the
-//! declarations in the order of the source. `specs/Function.antt` says which parts make a function.
+//! A function whose names are resolved. Its variables are numbered from 0: the parameters come
+//! first, then the declarations in the order of the source. `specs/Function.antt` says which parts
+//! make a function.
 ghost use Rattle.std.specs.Prelude.{◌≡◌, ◌↔◌, List, ℤ, length, MatchOption, IfSome, IfOk, IsTrue};
 ghost use Rattle.c_ast.specs.declared.expr.Expr.{Expr};
 
@@ -29,15 +30,15 @@ pub struct Func {
 impl Model for Func {
     ghost use Rattle.std.specs.Coded.{codes};
     ghost use Rattle.c_ast.specs.contracts.stmt.Stmt as stmts;
-    ghost use Rattle.c_ast.specs.Function.{Function, IsFunction};
+    ghost use Rattle.c_ast.specs.Function.{Function, IsFunction, function};
 
     ghost Value = { Function };
 
     ghost coded = { Prim.hlevel (codes, stmts.the_row.coded) };
 
-    ghost view = { λ f. record { name = f.name; params = f.params; vars = f.vars; body = f.body } };
+    ghost view = { λ f. function f.name f.params f.vars f.body };
 
-    ghost invariant = { λ f. IsFunction (record { name = f.name; params = f.params; vars = f.vars; body = f.body }) };
+    ghost invariant = { λ f. IsFunction (function f.name f.params f.vars f.body) };
 }
 
 impl Func {
@@ -46,7 +47,8 @@ impl Func {
     ghost use Rattle.c_ast.specs.Value.{eval, CanEvaluate};
     ghost use Rattle.c_ast.specs.View.{expression_of};
 
-    /// The function of these parts, of which the first `params` variables are the parameters. Takes no memory.
+    /// The function of these parts, of which the first `params` variables are the parameters. Takes
+    /// no memory.
     pub fn new(name: Name, params: u32, vars: Vec<Var>, body: Vec<Stmt>) -> Func
         requires { IsFunction (function name params vars.items body.items) }
         ensures { result ≡ function name params vars.items body.items }
@@ -89,7 +91,8 @@ impl Func {
     }
 
     fn one_return(&self) -> Option<&Expr>
-        ensures returns { MatchOption result ((e : Expr) → ¬ ReturnsOne self.now e) (λ e. ReturnsOne self.now e.now) }
+        ensures returns { MatchOption result
+            ((e : Expr) → ¬ ReturnsOne self.now e) (λ e. ReturnsOne self.now e.now) }
         ensures formed { IsFunction self.now }
     {
         match self.body.as_slice() {
@@ -98,13 +101,17 @@ impl Func {
         }
     }
 
-    /// The expression of its body, where that is one `return`. Its value is then what the function returns, and
-    /// nothing else is.
+    /// The expression of its body, where that is one `return`. Its value is then what the function
+    /// returns, and nothing else is.
     pub fn returned(&self) -> Option<&Expr>
-        ensures returns { MatchOption result ((e : Expr) → ¬ ReturnsOne self.now e) (λ e. ReturnsOne self.now e.now) }
-        ensures variables { IfSome result (λ e. CanEvaluate self.now.params (expression_of e.now)) }
-        ensures value { IfSome result (λ e. (inputs : List ℤ) (value : ℤ) → length inputs ≡ self.now.params
-            → (Returns (program_of self.now) inputs value ↔ (value ≡ eval (expression_of e.now) inputs))) }
+        ensures returns { MatchOption result
+            ((e : Expr) → ¬ ReturnsOne self.now e) (λ e. ReturnsOne self.now e.now) }
+        ensures variables { IfSome result
+            (λ e. CanEvaluate self.now.params (expression_of e.now)) }
+        ensures value { IfSome result (λ e. (inputs : List ℤ) (value : ℤ)
+            → length inputs ≡ self.now.params
+            → (Returns (program_of self.now) inputs value
+            ↔ (value ≡ eval (expression_of e.now) inputs))) }
     {
         self.one_return()
     }

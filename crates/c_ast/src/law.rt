@@ -1,4 +1,5 @@
-//! Laws of values and runs, each the contract of a function that does nothing. `specs/` states them, most in `Laws.antt`.
+//! Laws of values and runs, each the contract of a function that does nothing. `specs/` states
+//! them, most in `Laws.antt`.
 ghost use Rattle.c_ast.specs.Division.{LawOfQuotients, LawOfRemainders, LawOfDivision};
 ghost use Rattle.c_ast.specs.Place.{LawOfPlaces};
 ghost use Rattle.c_ast.specs.Fronts.{Fronts, OneTree, OneExpression};
@@ -13,7 +14,8 @@ ghost use Rattle.c_ast.specs.Laws.{WorkIsDetermined, NextPlaceIsDetermined, Next
 ghost use Rattle.c_ast.specs.Laws.{FittingValuesAreAsMany, EntryIsNotMet, ExitIsLast};
 ghost use Rattle.c_ast.specs.Laws.{IsJudgedOnce, JudgedIsTrace, CutOffPassesMore, TraceIsJudged};
 
-/// The values of `/` and `%` are those of the standard: a quotient that is truncated toward zero, and what it leaves.
+/// The values of `/` and `%` are those of the standard: a quotient that is truncated toward zero,
+/// and what it leaves.
 pub fn law_of_division()
     ensures quotients { LawOfQuotients }
     ensures remainders { LawOfRemainders }
@@ -32,8 +34,8 @@ pub fn law_of_trees()
     ensures expressions { OneExpression }
 {}
 
-/// Environments have a value for each variable. The variables in scope, and the expressions over them, are among
-/// these.
+/// Environments have a value for each variable. The variables in scope, and the expressions over
+/// them, are among these.
 pub fn law_of_environments()
     ensures length { SpreadHasLength }
     ensures kept { StepKeepsLength }
@@ -46,8 +48,8 @@ pub fn law_of_environments()
     ensures taken { SetCanEvaluate }
 {}
 
-/// A function of the values of an environment, be they integers or linear forms, may be taken before or after they are
-/// spread over the variables, or listed by the variables in scope.
+/// A function of the values of an environment, be they integers or linear forms, may be taken
+/// before or after they are spread over the variables, or listed by the variables in scope.
 pub fn law_of_values<A, B>()
     ensures spread { MapOfSpread A B }
     ensures listed { MapOfValues A B }
@@ -70,7 +72,8 @@ pub fn law_of_results()
     ensures { ReturnsOnce }
 {}
 
-/// A function has at most one trace on an input, and returns a value exactly where a trace has it as its result.
+/// A function has at most one trace on an input, and returns a value exactly where a trace has it
+/// as its result.
 pub fn law_of_traces()
     ensures one { HasOneTrace }
     ensures result { TraceReturns }
@@ -79,7 +82,8 @@ pub fn law_of_traces()
     ensures segments { TraceIsSegments }
 {}
 
-/// From each place, with any values, exactly one place is met next, with one list of values, which fits it.
+/// From each place, with any values, exactly one place is met next, with one list of values, which
+/// fits it.
 pub fn law_of_segments()
     ensures work { WorkIsDetermined }
     ensures determined { NextPlaceIsDetermined }
@@ -90,8 +94,9 @@ pub fn law_of_segments()
     ensures exit { ExitIsLast }
 {}
 
-/// A run that may pass a number of marks has at most one outcome. A trace among the outcomes is the function's, with no
-/// more marks; a run that is cut off passes more; and a trace with no more comes of the run, but where a wide value is met.
+/// A run that may pass a number of marks has at most one outcome. A trace among the outcomes is the
+/// function's, with no more marks; a run that is cut off passes more; and a trace with no more
+/// comes of the run, but where a wide value is met.
 pub fn law_of_outcomes()
     ensures one { IsJudgedOnce }
     ensures trace { JudgedIsTrace }

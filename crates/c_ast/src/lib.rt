@@ -1,8 +1,9 @@
 //! The functions of the C profile as checked trees, and what they mean.
 //!
-//! A `Func` goes in and out as plain data: its names are numbers, its loops have one form. The meaning stands in
-//! `specs/`: `Value.antt` (ISO C11, 6.5) gives an expression's value, `Step.antt` (6.8) the steps of a run, and
-//! `Returns.antt` what a function returns. All numbers of a run are integers of any size.
+//! A `Func` goes in and out as plain data: its names are numbers, its loops have one form. The
+//! meaning stands in `specs/`: `Value.antt` (ISO C11, 6.5) gives an expression's value, `Step.antt`
+//! (6.8) the steps of a run, and `Returns.antt` what a function returns. All numbers of a run are
+//! integers of any size.
 #![tactic(auto)]
 
 mod copy;

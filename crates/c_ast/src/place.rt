@@ -1,6 +1,7 @@
 //! The places of a function at which runs are compared.
 
-/// A place: the entry, a mark by its number, or the exit. Their order is this one, marks by rising number.
+/// A place: the entry, a mark by its number, or the exit. Their order is this one, marks by rising
+/// number.
 #[derive(Clone, Copy, Debug, PartialEq, Eq, PartialOrd, Ord)]
 pub enum Place {
     Entry,

@@ -29,7 +29,8 @@ fn none_before(alloc: Global, stands: bool) -> Option<Items<u32>>
     }
 }
 
-/// The variables that are set around the mark and in front of it, the newest first, where it stands in the statements.
+/// The variables that are set around the mark and in front of it, the newest first, where it stands
+/// in the statements.
 #[cycle(before)]
 fn set_before(alloc: Global, stmts: &[Stmt], mark: u32) -> Result<Option<Items<u32>>, AllocError>
     ensures { IfOk result (λ found. found ≡ set_before mark (statements_of stmts.now)) }
@@ -129,10 +130,12 @@ impl Func {
         is_in(before, x) || x < self.params()
     }
 
-    /// The variables in scope at a place, by rising number. The place is the entry or one of the function's marks.
+    /// The variables in scope at a place, by rising number. The place is the entry or one of the
+    /// function's marks.
     pub fn scope(&self, alloc: Global, place: Place) -> Result<Vec<u32>, AllocError>
         requires { IsPlace (program_of self.now) place }
-        ensures { IfOk result (λ variables. AreInScope (program_of self.now) place variables.items) }
+        ensures { IfOk result
+            (λ variables. AreInScope (program_of self.now) place variables.items) }
     {
         let before = self.set_before_place(alloc, place)?;
         let mut variables = Vec::new(alloc);
@@ -157,7 +160,8 @@ pub fn first_environment(
     vars: usize,
     inputs: &[i128],
 ) -> Result<Vec<i128>, AllocError>
-    ensures { IfOk result (λ values. values.items ≡ spread (first_variables (length inputs.now)) vars inputs.now) }
+    ensures { IfOk result
+        (λ values. values.items ≡ spread (first_variables (length inputs.now)) vars inputs.now) }
 {
     let mut values = Vec::new(alloc);
     for x in 0..vars {

@@ -23,19 +23,25 @@ pub struct Settings {
 }
 
 impl Model for Settings {
-    ghost use Rattle.c_ast.specs.Bounds.{Bounds, AreBounds};
+    ghost use Rattle.c_ast.specs.Bounds.{Bounds, AreBounds, bounds};
 
     ghost Value = { Bounds };
 
-    ghost view = { λ s. record { samples = s.samples; marks = s.marks; rows = s.rows; seed = s.seed } };
+    ghost view = { λ s. bounds s.samples s.marks s.rows s.seed };
 
-    ghost invariant = { λ s. AreBounds (record { samples = s.samples; marks = s.marks; rows = s.rows; seed = s.seed }) };
+    ghost invariant = { λ s. AreBounds (bounds s.samples s.marks s.rows s.seed) };
 
-    ghost inverse = { λ b. record { samples = b.samples; marks = b.marks; rows = b.rows; seed = b.seed } };
+    ghost inverse = { λ b. record {
+      samples = b.samples;
+      marks = b.marks;
+      rows = b.rows;
+      seed = b.seed;
+    } };
 }
 
 impl Settings {
-    /// The settings of these numbers; `None` where one of them is out of its range. Takes no memory.
+    /// The settings of these numbers; `None` where one of them is out of its range. Takes no
+    /// memory.
     pub fn new(samples: u32, marks: u32, rows: u32, seed: u64) -> Option<Settings>
         ensures in_range { IsSome result ↔ AreBounds (bounds samples marks rows seed) }
         ensures settings { IfSome result (λ settings. settings ≡ bounds samples marks rows seed) }

@@ -5,7 +5,8 @@ use sqlite_items::Items;
 /// A statement.
 #[derive(Debug, Drop)]
 pub enum Stmt {
-    /// The variable with this number takes the expression's value. A declaration sets its variable to 0 first.
+    /// The variable with this number takes the expression's value. A declaration sets its variable
+    /// to 0 first.
     Set(u32, Expr),
     /// The statements where the condition is not 0, and those where it is 0.
     If(Expr, Items<Stmt>, Items<Stmt>),

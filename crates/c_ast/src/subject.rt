@@ -1,5 +1,6 @@
-//! What a search is about: two functions with as many parameters, the settings, and a condition on the inputs.
-ghost use Rattle.std.specs.Prelude.{◌≡◌, ◌≢◌, ◌↔◌, IsTrue, IfOk, MatchResult, Some, None};
+//! What a search is about: two functions with as many parameters, the settings, and a condition on
+//! the inputs.
+ghost use Rattle.std.specs.Prelude.{◌≡◌, ◌↔◌, IsTrue, IfOk, Some, None};
 ghost use Rattle.std.specs.Option.{option_copied};
 
 use crate::copy::copy_expr;
@@ -15,7 +16,8 @@ pub struct Arity {
     pub second: u32,
 }
 
-/// Two functions that are compared, the settings, and the condition that the inputs are to meet, if there is one.
+/// Two functions that are compared, the settings, and the condition that the inputs are to meet, if
+/// there is one.
 #[derive(Debug, Drop)]
 pub struct Subject {
     first: Func,
@@ -63,20 +65,19 @@ fn copy_condition(alloc: Global, condition: &Option<Expr>) -> Result<Option<Expr
 
 impl Subject {
     ghost use Rattle.c_ast.specs.Function.{IsFunction};
-    ghost use Rattle.c_ast.specs.Comparison.{Comparison, IsComparison, IsCondition, comparison};
-    ghost use Rattle.c_ast.specs.declared.subject.Arity.{Arity};
+    ghost use Rattle.c_ast.specs.Comparison.{IsComparison, IsCondition};
+    ghost use Rattle.c_ast.specs.Compares.{Compares};
 
-    /// The subject of these functions, unless the numbers of their parameters differ. All inputs meet its
-    /// condition. Takes no memory; refused functions are dropped.
+    /// The subject of these functions, unless the numbers of their parameters differ. All inputs
+    /// meet its condition. Takes no memory; refused functions are dropped.
     pub fn new(first: Func, second: Func, settings: Settings) -> Result<Subject, Arity>
-        ensures { MatchResult result
-            (λ subject. (first.params ≡ second.params) × (subject ≡ comparison first second settings None))
-            (λ arity. (first.params ≢ second.params) × (arity.first ≡ first.params) × (arity.second ≡ second.params)) }
+        ensures { Compares first second settings None result }
     {
         Subject::of_parts(first, second, settings, None)
     }
 
-    /// The same with a condition on the inputs: an expression over the parameters of the first function.
+    /// The same with a condition on the inputs: an expression over the parameters of the first
+    /// function.
     pub fn with_condition(
         first: Func,
         second: Func,
@@ -84,9 +85,7 @@ impl Subject {
         condition: Expr,
     ) -> Result<Subject, Arity>
         requires { IsCondition first condition }
-        ensures { MatchResult result
-            (λ subject. (first.params ≡ second.params) × (subject ≡ comparison first second settings (Some condition)))
-            (λ arity. (first.params ≢ second.params) × (arity.first ≡ first.params) × (arity.second ≡ second.params)) }
+        ensures { Compares first second settings (Some condition) result }
     {
         Subject::of_parts(first, second, settings, Some(condition))
     }
@@ -98,9 +97,7 @@ impl Subject {
         condition: Option<Expr>,
     ) -> Result<Subject, Arity>
         requires { (given : Expr) → condition ≡ Some given → IsCondition first given }
-        ensures { MatchResult result
-            (λ subject. (first.params ≡ second.params) × (subject ≡ comparison first second settings condition))
-            (λ arity. (first.params ≢ second.params) × (arity.first ≡ first.params) × (arity.second ≡ second.params)) }
+        ensures { Compares first second settings condition result }
     {
         let (m, n) = (first.params(), second.params());
         if m != n {

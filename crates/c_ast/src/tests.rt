@@ -1,4 +1,5 @@
-//! Values that were worked out by hand, from the meaning of C's operators. The trees here have the variables 0 and 1.
+//! Values that were worked out by hand, from the meaning of C's operators. The trees here have the
+//! variables 0 and 1.
 ghost use Rattle.std.specs.Prelude.{◌<◌, ◌≤ℤ◌, pos, IfOk, IsTrue};
 ghost use Rattle.c_ast.specs.Tree.{Expression};
 ghost use Rattle.c_ast.specs.View.{expression_of};

@@ -23,7 +23,8 @@ pub enum Outcome {
     /// A part of an evaluated expression, also one that C would skip, has a value of 2^100 or more
     /// in size.
     Wide,
-    /// Neither happened within the steps; or, where marks are limited, one mark more was to be passed.
+    /// Neither happened within the steps; or, where marks are limited, one mark more was to be
+    /// passed.
     CutOff,
 }
 

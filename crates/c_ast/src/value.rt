@@ -1,5 +1,6 @@
 //! The values of expressions, computed plainly. A value of 2^100 or more in size is not handed out.
-ghost use Rattle.std.specs.Prelude.{◌≡◌, ◌≢◌, ◌<◌, ◌*ℤ◌, int_div, int_rem, pos, true, if◌then◌else◌, length, IfSome, Some, None};
+ghost use Rattle.std.specs.Prelude.{◌≡◌, ◌≢◌, ◌<◌, ◌*ℤ◌, int_div, int_rem, pos, true};
+ghost use Rattle.std.specs.Prelude.{if◌then◌else◌, length, IfSome, Some, None};
 ghost use Rattle.c_ast.specs.View.{expression_of};
 ghost use Rattle.c_ast.specs.Value.{unary_value, binary_value, is_nonzero, test_value, CanEvaluate, Divides};
 ghost use Rattle.c_ast.specs.FitsRun.{fits_run, only_if, fitting_value};
@@ -79,7 +80,8 @@ fn binary_value(op: BinOp, left: i128, right: i128) -> Option<i128>
     requires first { fits_run left ≡ true }
     requires second { fits_run right ≡ true }
     requires divisor { Divides op right }
-    ensures { result ≡ only_if (fits_run (binary_value op left right)) (binary_value op left right) }
+    ensures { result
+        ≡ only_if (fits_run (binary_value op left right)) (binary_value op left right) }
 {
     match op {
         BinOp::Mul => product(left, right),
@@ -98,8 +100,8 @@ fn binary_value(op: BinOp, left: i128, right: i128) -> Option<i128>
     }
 }
 
-/// The value of an expression where the variables have these values, by number. `None` where one of its parts,
-/// also one that C would skip, has a value of 2^100 or more in size.
+/// The value of an expression where the variables have these values, by number. `None` where one of
+/// its parts, also one that C would skip, has a value of 2^100 or more in size.
 pub fn value_of(expr: &Expr, environment: &[i128]) -> Option<i128>
     requires { CanEvaluate (length environment.now) (expression_of expr.now) }
     ensures value { result ≡ fitting_value (expression_of expr.now) environment.now }

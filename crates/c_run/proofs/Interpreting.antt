@@ -2,8 +2,8 @@
 use Rattle.std.proofs.Common.{◌≡◌, ℕ, suc, Bool, true, false, cond, List, [], ◌∷◌, ◌++◌, length, Option, Some, None, ℤ, refl, sym, ap, ◌∙◌, subst, append_assoc, append-nil, slice_set}
 use Rattle.c_ast.specs.declared.place.Place.TheVariants as place
 use Rattle.c_ast.specs.declared.trace.Event.{Event}
-use Rattle.c_ast.specs.declared.interpreter.Item.{Item}
-use Rattle.c_ast.specs.declared.interpreter.Next.TheVariants as next
+use Rattle.c_run.specs.declared.interpreter.Item.{Item}
+use Rattle.c_run.specs.declared.interpreter.Next.TheVariants as next
 use Rattle.c_ast.specs.declared.trace.Outcome.{Outcome}
 use Rattle.c_ast.specs.declared.trace.Outcome.TheVariants as outcome
 use Rattle.c_ast.specs.Tree.{Expression, Statements, Nil, Set, If, Loop, Break, Continue, Return, Mark, Block, Program}
@@ -12,13 +12,16 @@ use Rattle.c_ast.specs.Step as run
 use Rattle.c_ast.specs.Step.{Scope, is_in, first_variables, LoopParts, Run, Test, Tail, Work, scope_of, values_in, past_tail, to_tail, tested, entered, turned, step, evaluated, start, spread, seen, seen_next}
 use Rattle.c_ast.specs.Segment.{Follows}
 use Rattle.c_ast.specs.Formed.{AreFormed, IsProgram}
-use Rattle.c_ast.specs.Within.{AreWithin, IsLoopWithin, IsWorkWithin}
-use Rattle.c_ast.specs.Shown.{work_of, bare, bare_next, evaluates_fitting, TakesStep}
+use Rattle.c_run.specs.Within.{AreWithin, IsLoopWithin, IsWorkWithin}
+use Rattle.c_run.specs.Shown.{work_of, bare, bare_next, TakesStep}
+use Rattle.c_ast.specs.FitsRun.{evaluates_fitting}
 use Rattle.c_ast.specs.Scope.{IsPlace}
-use Rattle.c_ast.specs.Outcome.{with_first, at_event, returned, interpreted, or_cut_off, outcome_within, IsEvent}
-use Rattle.c_ast.proofs.MarksAhead.{IsAhead, IsAheadNext, ahead_next, ahead_at_start}
-use Rattle.c_ast.proofs.Lengths.{HasLength, length-step, length-spread}
-use Rattle.c_ast.proofs.Scoped.{IsBelow, over_below, set_below, more_below, first_below}
+use Rattle.c_ast.specs.Outcome.{with_first, at_event, returned, interpreted, or_cut_off, outcome_within}
+use Rattle.c_run.specs.Event.{IsEvent}
+use Rattle.c_ast.specs.Ahead.{IsAhead, IsAheadNext}
+use Rattle.c_ast.specs.Environments.{IsBelow, HasLength}
+use Rattle.c_ast.proofs.Laws.{marks_stay_ahead, marks_are_ahead_at_start, step_keeps_length, spread_has_length}
+use Rattle.c_ast.proofs.Laws.{over_can_evaluate, set_can_evaluate, set_stays_below, parameters_are_below}
 
 -- ---- scopes make no difference to a step, but at marks
 
@@ -148,12 +151,12 @@ bare_within n (Tail s l ∷ w) h = (h.0, bare_within n w h.1)
 
 formed_within : (c : Statements) (n : ℕ) (s : Scope) (in_loop : Bool) → IsBelow n s → AreFormed n s in_loop c → AreWithin n c
 formed_within Nil n s in_loop b h = tt
-formed_within (Set x e c) n s in_loop b h = (h.0, set_below (is_in s x) e n s b h.1, formed_within c n (x ∷ s) in_loop (more_below n x s h.0 b) h.2)
-formed_within (If e p q c) n s in_loop b h = (over_below e n s b h.0, formed_within p n s in_loop b h.1, formed_within q n s in_loop b h.2, formed_within c n s in_loop b h.3)
-formed_within (Loop m e p t f c) n s in_loop b h = (over_below e n s b h.0, formed_within p n s true b h.1, formed_within t n s in_loop b h.2, formed_within c n s in_loop b h.5)
+formed_within (Set x e c) n s in_loop b h = (h.0, set_can_evaluate (is_in s x) e n s b h.1, formed_within c n (x ∷ s) in_loop (set_stays_below n x s h.0 b) h.2)
+formed_within (If e p q c) n s in_loop b h = (over_can_evaluate e n s b h.0, formed_within p n s in_loop b h.1, formed_within q n s in_loop b h.2, formed_within c n s in_loop b h.3)
+formed_within (Loop m e p t f c) n s in_loop b h = (over_can_evaluate e n s b h.0, formed_within p n s true b h.1, formed_within t n s in_loop b h.2, formed_within c n s in_loop b h.5)
 formed_within (Break c) n s in_loop b h = formed_within c n s in_loop b h.1
 formed_within (Continue c) n s in_loop b h = formed_within c n s in_loop b h.1
-formed_within (Return e c) n s in_loop b h = (over_below e n s b h.0, formed_within c n s in_loop b h.1)
+formed_within (Return e c) n s in_loop b h = (over_can_evaluate e n s b h.0, formed_within c n s in_loop b h.1)
 formed_within (Mark k c) n s in_loop b h = formed_within c n s in_loop b h
 formed_within (Block p c) n s in_loop b h = (formed_within p n s in_loop b h.0, formed_within c n s in_loop b h.1)
 
@@ -193,9 +196,9 @@ pub begins : (f : Program) → IsProgram f → (inputs : List ℤ) (steps left :
 begins f is inputs steps left items env left_is items_are env_is = record {
   work = start f;
   bare_is = sym items_are;
-  placed = ahead_at_start f;
-  within = (formed_within f.body f.vars (first_variables f.params) false (first_below f.params f.vars is.parameters) is.formed, tt);
-  size = ap length env_is ∙ length-spread (first_variables f.params) f.vars inputs;
+  placed = marks_are_ahead_at_start f;
+  within = (formed_within f.body f.vars (first_variables f.params) false (parameters_are_below f.params f.vars is.parameters) is.formed, tt);
+  size = ap length env_is ∙ spread_has_length (first_variables f.params) f.vars inputs;
   marks = 0;
   rest = rw (left_is, env_is) (after_events-none (interpreted steps 0 (start f) (spread (first_variables f.params) f.vars inputs)));
 }
@@ -224,9 +227,9 @@ taken : (f : Program) (o : Outcome) (left left' : ℕ) (events : List Event) (it
     → evaluates_fitting (evaluated (work_of items)) env ≡ true → bare_next (step (work_of items) env) ≡ y → Taken f o left' events i.marks (step i.work env) y
 taken f o left left' events items env y left_is i narrow is = record {
   is = step_same i.work items env i.bare_is ∙ is;
-  placed = ahead_next f i.work env i.placed;
+  placed = marks_stay_ahead f i.work env i.placed;
   within = within_step f.vars i.work env i.within;
-  size = length-step f.vars i.work env i.size;
+  size = step_keeps_length f.vars i.work env i.size;
   rest = i.rest ∙ ap (λ (n : ℕ). after_events events (interpreted n i.marks i.work env)) left_is
       ∙ ap (λ (t : Bool). after_events events (cond t (RestOf left' i.marks (step i.work env)) (Some outcome.Wide))) (narrow_same i.work items env i.bare_is ∙ narrow);
 }

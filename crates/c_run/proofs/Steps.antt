@@ -2,11 +2,11 @@
 use Rattle.std.proofs.Common.{◌≡◌, ℕ, ◌≤◌, Bool, true, false, cond, List, [], ◌∷◌, length, get_or, take, drop, slice_set, ◌-◌, ◌<◌, take_all, Option, Some, None, ℤ, refl, sym, ap, ◌∙◌, subst, arith}
 use Rattle.c_ast.specs.declared.expr.Expr.{Expr}
 use Rattle.c_ast.specs.declared.stmt.Stmt.{Stmt, Loop, Break, Continue, Mark, Block}
-use Rattle.c_ast.specs.declared.interpreter.Parts.{Parts}
-use Rattle.c_ast.specs.declared.interpreter.Item.{Item}
-use Rattle.c_ast.specs.declared.interpreter.Item.TheVariants as item
-use Rattle.c_ast.specs.declared.interpreter.Next.{Next}
-use Rattle.c_ast.specs.declared.interpreter.Next.TheVariants as next
+use Rattle.c_run.specs.declared.interpreter.Parts.{Parts}
+use Rattle.c_run.specs.declared.interpreter.Item.{Item}
+use Rattle.c_run.specs.declared.interpreter.Item.TheVariants as item
+use Rattle.c_run.specs.declared.interpreter.Next.{Next}
+use Rattle.c_run.specs.declared.interpreter.Next.TheVariants as next
 use Rattle.c_ast.specs.Tree as tree
 use Rattle.c_ast.specs.Tree.{Expression, Statements}
 use Rattle.c_ast.specs.Value.{eval, is_nonzero}
@@ -14,8 +14,8 @@ use Rattle.c_ast.specs.View.{expression_of, put_in_front, statements_of}
 use Rattle.c_ast.specs.FitsRun.{parts_fit_run, only_if, fitting_value}
 use Rattle.c_ast.specs.Step as run
 use Rattle.c_ast.specs.Step.{LoopParts, Run, Test, Cond, Tail, Work, past_tail, to_tail, tested, entered, turned, step}
-use Rattle.c_ast.proofs.Fronts.{front-Loop, front-Break, front-Continue, front-Mark, front-Block}
-use Rattle.c_ast.specs.Shown.{loop_of, item_of, work_of, bare, bare_next, TakesStep, IsTested, Cuts}
+use Rattle.c_ast.proofs.Laws.{fronts}
+use Rattle.c_run.specs.Shown.{loop_of, item_of, work_of, bare, bare_next, TakesStep, IsTested, Cuts}
 
 -- ---- work that is bare already
 
@@ -93,7 +93,7 @@ pub takes-Loop : (stmts others body step : List Stmt) (mark : Option ℕ) (cond 
     → TakesStep (Run [] (statements_of stmts) ∷ work_of items) env next.Goes (work_of new) env
 takes-Loop stmts others body step mark cond test_first loop env items mid new is loop_is put put' =
     along stmts (tree.Loop mark (expression_of cond) (statements_of body) (statements_of step) test_first (statements_of others)) _ _ env _ next.Goes
-    (is ∙ front-Loop mark cond body step test_first _)
+    (is ∙ fronts.loop mark cond body step test_first _)
     (refl, ap (λ (z : Work). run.Goes z env) (bare_entered test_first loop _ others items loop_is ∙ ap (entered test_first [] loop) (sym put) ∙ sym put'))
   where
     bare_entered : (t : Bool) (l l' : LoopParts) (others : List Stmt) (items : List Item) → l ≡ l' → bare (entered t [] l' (Run [] (statements_of others) ∷ work_of items)) ≡ entered t [] l (Run [] (statements_of others) ∷ work_of items)
@@ -103,23 +103,23 @@ takes-Loop stmts others body step mark cond test_first loop env items mid new is
 pub takes-Break : (stmts others : List Stmt) (env : List ℤ) (items new : List Item) (tail : Option Parts) → statements_of stmts ≡ put_in_front Break (statements_of others)
     → Cuts (work_of items) tail (work_of new) → TakesStep (Run [] (statements_of stmts) ∷ work_of items) env next.Goes (work_of new) env
 takes-Break stmts others env items new tail is cuts =
-    along stmts (tree.Break (statements_of others)) _ _ env _ next.Goes (is ∙ front-Break _) (refl, rw cuts.past (ap (λ (z : Work). run.Goes z env) (bare_work_of new).is))
+    along stmts (tree.Break (statements_of others)) _ _ env _ next.Goes (is ∙ fronts.break_ _) (refl, rw cuts.past (ap (λ (z : Work). run.Goes z env) (bare_work_of new).is))
 
 pub takes-Continue : (stmts others : List Stmt) (env : List ℤ) (items new : List Item) → statements_of stmts ≡ put_in_front Continue (statements_of others)
     → work_of new ≡ to_tail (work_of items) → TakesStep (Run [] (statements_of stmts) ∷ work_of items) env next.Goes (work_of new) env
 takes-Continue stmts others env items new is to =
-    along stmts (tree.Continue (statements_of others)) _ _ env _ next.Goes (is ∙ front-Continue _) (refl, rw (← to) (ap (λ (z : Work). run.Goes z env) (bare_work_of new).is))
+    along stmts (tree.Continue (statements_of others)) _ _ env _ next.Goes (is ∙ fronts.continue_ _) (refl, rw (← to) (ap (λ (z : Work). run.Goes z env) (bare_work_of new).is))
 
 pub takes-Mark : (stmts others : List Stmt) (mark : ℕ) (env : List ℤ) (items new : List Item) → statements_of stmts ≡ put_in_front (Mark mark) (statements_of others)
     → work_of new ≡ Run [] (statements_of others) ∷ work_of items → TakesStep (Run [] (statements_of stmts) ∷ work_of items) env (next.Passes mark) (work_of new) env
 takes-Mark stmts others mark env items new is put =
-    along stmts (tree.Mark mark (statements_of others)) _ _ env _ (next.Passes mark) (is ∙ front-Mark mark _) (refl, rw (put, (bare_work_of items).is))
+    along stmts (tree.Mark mark (statements_of others)) _ _ env _ (next.Passes mark) (is ∙ fronts.mark mark _) (refl, rw (put, (bare_work_of items).is))
 
 pub takes-Block : (stmts others a c : List Stmt) (env : List ℤ) (items mid new : List Item) → statements_of stmts ≡ put_in_front (Block a) (statements_of others)
     → work_of mid ≡ Run [] (statements_of others) ∷ work_of items → c ≡ a → work_of new ≡ Run [] (statements_of c) ∷ work_of mid
     → TakesStep (Run [] (statements_of stmts) ∷ work_of items) env next.Goes (work_of new) env
 takes-Block stmts others a c env items mid new is put same put' =
-    along stmts (tree.Block (statements_of a) (statements_of others)) _ _ env _ next.Goes (is ∙ front-Block a _) (refl, rw (put', same, put, (bare_work_of items).is))
+    along stmts (tree.Block (statements_of a) (statements_of others)) _ _ env _ next.Goes (is ∙ fronts.block a _) (refl, rw (put', same, put, (bare_work_of items).is))
 
 -- ---- a step for each kind of item
 

@@ -1,18 +1,20 @@
-//! A plain interpreter over the tree, slow and exact. `step` is one step of a run, and the loop around it knows nothing
-//! of the language. Items of work have no scopes: at a mark the function says which variables are in scope there.
-ghost use Rattle.std.specs.Prelude.{◌≡◌, [], ◌∷◌, if◌then◌else◌, length, slice_index_or, pos, OnOk, IfOk};
+//! The interpreter. `step` is one step of a run, and the loop around it knows nothing of the
+//! language. Items of work have no scopes: at a mark the function says which variables are in scope
+//! there.
+ghost use Rattle.std.specs.Prelude.{◌≡◌, [], ◌∷◌, if◌then◌else◌, length, OnOk, IfOk};
 ghost use Rattle.c_ast.specs.Tree as tree;
 ghost use Rattle.c_ast.specs.View.{expression_of, statements_of};
 ghost use Rattle.c_ast.specs.Value.{CanEvaluate, is_nonzero};
-ghost use Rattle.c_ast.specs.Step.{Run, Tail, entered, to_tail, first_variables, spread};
+ghost use Rattle.c_ast.specs.Step.{Run, Tail, entered, to_tail};
 ghost use Rattle.c_ast.specs.Function.{program_of};
 ghost use Rattle.c_ast.specs.Scope.{IsPlace};
-ghost use Rattle.c_ast.specs.Outcome.{IsEvent, outcome_within};
-ghost use Rattle.c_ast.specs.Shown.{loop_of, item_of, work_of, TakesStep, IsTested, Cuts};
-ghost use Rattle.c_ast.specs.Within.{AreWithin, IsWorkWithin};
+ghost use Rattle.c_ast.specs.Outcome.{outcome_within};
+ghost use Rattle.c_run.specs.Event.{IsEvent};
+ghost use Rattle.c_run.specs.Shown.{loop_of, item_of, work_of, TakesStep, IsTested, Cuts};
+ghost use Rattle.c_run.specs.Within.{AreWithin, IsWorkWithin};
 
-use crate::value::is_nonzero;
-use crate::{Event, Expr, Func, Place, Stmt, Trace, value_of};
+use c_ast::{Event, Expr, Func, Outcome, Place, Stmt, Trace};
+use c_ast::{first_environment, is_nonzero, value_of};
 use sqlite_items::Items;
 use std::alloc::{AllocError, Global};
 use std::collections::VecDeque;
@@ -26,8 +28,8 @@ struct Parts<'a> {
     step: &'a [Stmt],
 }
 
-/// What is left to do: the rest of a list of statements, or a loop's mark and condition, its condition alone, or what
-/// follows its body.
+/// What is left to do: the rest of a list of statements, or a loop's mark and condition, its
+/// condition alone, or what follows its body.
 #[derive(Clone, Copy)]
 enum Item<'a> {
     Run(&'a [Stmt]),
@@ -36,7 +38,8 @@ enum Item<'a> {
     Tail(Parts<'a>),
 }
 
-/// What a step comes to: the run goes on, passes a mark, or ends with a result, or a wide value was met.
+/// What a step comes to: the run goes on, passes a mark, or ends with a result, or a wide value was
+/// met.
 enum Next {
     Goes,
     Passes(u32),

@@ -1,7 +1,7 @@
 use Rattle.std.proofs.Common.{◌≡◌, length}
 use Rattle.c_ast.specs.Step.{past_tail, to_tail}
-use Rattle.c_ast.specs.Shown.{work_of}
-use Rattle.c_ast.proofs.interpreter.cut.Given as goal
+use Rattle.c_run.specs.Shown.{work_of}
+use Rattle.c_run.proofs.interpreter.cut.Given as goal
 
 abbrev pub invariant-loop-item : goal.invariant-loop-item
 invariant-loop-item l = record {

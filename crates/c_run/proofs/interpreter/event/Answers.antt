@@ -1,8 +1,8 @@
 use Rattle.std.proofs.Common.{ℕ, ◌<◌, slice_index_or, subst, sym}
 use Rattle.c_ast.specs.declared.place.Place.TheVariants as place
 use Rattle.c_ast.specs.Function.{program_of}
-use Rattle.c_ast.proofs.Environments.{in_scope-below, event_is}
-use Rattle.c_ast.proofs.interpreter.event.Goals as goal
+use Rattle.c_run.proofs.Events.{in_scope-below, event_is}
+use Rattle.c_run.proofs.interpreter.event.Goals as goal
 
 pub bounds-environment-x : goal.bounds-environment-x
 bounds-environment-x c =

@@ -1,15 +1,15 @@
 -- The loop takes one step of the run after another.
 use Rattle.std.proofs.Common.{◌≡◌, ◌-◌, ◌+◌, ◌∷◌, [], length, arith, ap, ◌∙◌, subst, rules, FitsSigned, to_z-of_z}
 use Rattle.std.specs.Int.{w128}
-use Rattle.c_ast.specs.declared.interpreter.Next.{Next}
+use Rattle.c_run.specs.declared.interpreter.Next.{Next}
 use Rattle.c_ast.specs.Step.{Run, first_variables, spread}
 use Rattle.c_ast.specs.View.{statements_of}
-use Rattle.c_ast.specs.Shown.{work_of, TakesStep}
+use Rattle.c_run.specs.Shown.{work_of, TakesStep}
 use Rattle.c_ast.specs.Function.{program_of}
 use Rattle.c_ast.specs.Outcome.{outcome_within}
-use Rattle.c_ast.proofs.Interpreting.{begins, step_within, goes, passes, passed_place, passed_on, ends, meets_wide}
-use Rattle.c_ast.proofs.interpreter.interpret.Goals as goal
-use Rattle.c_ast.proofs.interpreter.interpret.Goals.{in-Goes, in-Passes+in_ok-event-in-Passes+in_ok-push-in-Passes}
+use Rattle.c_run.proofs.Interpreting.{begins, step_within, goes, passes, passed_place, passed_on, ends, meets_wide}
+use Rattle.c_run.proofs.interpreter.interpret.Goals as goal
+use Rattle.c_run.proofs.interpreter.interpret.Goals.{in-Goes, in-Passes+in_ok-event-in-Passes+in_ok-push-in-Passes}
 
 pub loop-taken-init : goal.loop-taken-init
 loop-taken-init c =

@@ -1,8 +1,8 @@
 use Rattle.std.proofs.Common.{◌-◌}
 use Rattle.c_ast.specs.Function.{program_of}
 use Rattle.c_ast.specs.Outcome.{outcome_within}
-use Rattle.c_ast.proofs.Interpreting.{Interprets}
-use Rattle.c_ast.proofs.interpreter.interpret.Given as goal
+use Rattle.c_run.proofs.Interpreting.{Interprets}
+use Rattle.c_run.proofs.interpreter.interpret.Given as goal
 
 abbrev pub invariant-loop-taken : goal.invariant-loop-taken
 invariant-loop-taken l =

@@ -2,11 +2,11 @@
 use Rattle.std.proofs.Common.{IfOk, [], ◌∷◌, sym, ◌∙◌, subst}
 use Rattle.c_ast.specs.Tree.{Statements}
 use Rattle.c_ast.specs.Step.{Run}
-use Rattle.c_ast.specs.Shown.{work_of, TakesStep}
-use Rattle.c_ast.proofs.Fronts.{front-Set, front-If}
+use Rattle.c_run.specs.Shown.{work_of, TakesStep}
+use Rattle.c_ast.proofs.Laws.{fronts}
 use Rattle.c_ast.specs.declared.stmt.Stmt.{Set, If, Loop, Break, Continue, Mark, Block}
-use Rattle.c_ast.proofs.Steps.{first_of, none_of, takes-Nil, takes-Loop, takes-Break, takes-Continue, takes-Mark, takes-Block}
-use Rattle.c_ast.proofs.interpreter.run_first.Goals as goal
+use Rattle.c_run.proofs.Steps.{first_of, none_of, takes-Nil, takes-Loop, takes-Break, takes-Continue, takes-Mark, takes-Block}
+use Rattle.c_run.proofs.interpreter.run_first.Goals as goal
 
 pub returns-in_default : goal.returns-in_default
 returns-in_default c = takes-Nil c.args.stmts.now c.args.environment.now c.args.work.now.items (none_of c.args.stmts.now c.in_default.len_below)
@@ -16,14 +16,14 @@ returns-in-Set c =
     let is = first_of c.args.stmts.now c.first-item.result (Set c.in-Set.x c.in-Set.e) c.in-len1-up.len_at_least c.first-item.is c.in-Set.is in
     subst (λ (stmts : Statements). IfOk c.run_set.result (λ next. TakesStep (Run [] stmts ∷ work_of c.args.work.now.items)
     c.args.environment.now next (work_of c.run_set.new.work.items) c.run_set.new.environment))
-    (sym (is ∙ front-Set c.in-Set.x c.in-Set.e _)) c.run_set.ensures
+    (sym (is ∙ fronts.set c.in-Set.x c.in-Set.e _)) c.run_set.ensures
 
 pub returns-in-If : goal.returns-in-If
 returns-in-If c =
     let is = first_of c.args.stmts.now c.first-item.result (If c.in-If.e c.in-If.a c.in-If.b) c.in-len1-up.len_at_least c.first-item.is c.in-If.is in
     subst (λ (stmts : Statements). IfOk c.run_if.result (λ next. TakesStep (Run [] stmts ∷ work_of c.args.work.now.items)
     c.args.environment.now next (work_of c.run_if.new.work.items) c.args.environment.now))
-    (sym (is ∙ front-If c.in-If.e c.in-If.a c.in-If.b _)) c.run_if.ensures
+    (sym (is ∙ fronts.if_ c.in-If.e c.in-If.a c.in-If.b _)) c.run_if.ensures
 
 pub returns-in_ok-enter-in-Loop : goal.returns-in_ok-enter-in-Loop
 returns-in_ok-enter-in-Loop c =

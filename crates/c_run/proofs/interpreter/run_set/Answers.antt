@@ -1,7 +1,7 @@
 use Rattle.std.proofs.Common.{to_z-of_z, FitsSigned, rules}
 use Rattle.std.specs.Int.{w128}
-use Rattle.c_ast.proofs.Steps.{takes-Set}
-use Rattle.c_ast.proofs.interpreter.run_set.Goals as goal
+use Rattle.c_run.proofs.Steps.{takes-Set}
+use Rattle.c_run.proofs.interpreter.run_set.Goals as goal
 
 pub returns : goal.returns
 returns c =

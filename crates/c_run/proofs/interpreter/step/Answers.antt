@@ -1,10 +1,10 @@
 -- Each kind of item takes the run's step.
 use Rattle.std.proofs.Common.{true, false, to_z-of_z, FitsSigned, rules, refl, sym, ◌∙◌}
 use Rattle.std.specs.Int.{w128}
-use Rattle.c_ast.specs.declared.interpreter.Item.TheVariants as item
-use Rattle.c_ast.specs.Shown.{loop_of, work_of}
-use Rattle.c_ast.proofs.Steps.{front_of, takes-Test, takes-Cond, takes-Tail}
-use Rattle.c_ast.proofs.interpreter.step.Goals as goal
+use Rattle.c_run.specs.declared.interpreter.Item.TheVariants as item
+use Rattle.c_run.specs.Shown.{loop_of, work_of}
+use Rattle.c_run.proofs.Steps.{front_of, takes-Test, takes-Cond, takes-Tail}
+use Rattle.c_run.proofs.interpreter.step.Goals as goal
 
 pub returns-in_ok-put-in-Test : goal.returns-in_ok-put-in-Test
 returns-in_ok-put-in-Test c =

@@ -10,11 +10,14 @@ loop-x-preserved c =
     let before = c.before-2.inside.items.items in
     let scope = before ++ first_variables c.args.self.now.params in
     let same : c.as_slice.result.now ≡ before = c.as_slice.ensures ∙ sym c.before-2.view_is in
-    let decides : c.has.result ≡ is_in scope c.loop-x.x = c.has.ensures ∙ ap (λ (s : Scope). is_in (s ++ first_variables c.args.self.now.params) c.loop-x.x) same in
+    let decides : c.has.result ≡ is_in scope c.loop-x.x = c.has.ensures
+    ∙ ap (λ (s : Scope). is_in (s ++ first_variables c.args.self.now.params) c.loop-x.x) same in
     elim c.if-has.branch [
       | then-has+in_ok-push w ↦
           let items : c.if-has.variables.items ≡ c.loop-x.variables.items ++ c.loop-x.x ∷ [] = rw w.variables-is w.in_ok-push.ensures.items in
-          rw items (lists_one scope (length c.vars.result.now) c.loop-x.x (c.loop-x.x + 1) c.loop-x.variables.items (omega arith) (omega arith) (sym decides ∙ w.if-has.true) c.loop-x.invariant)
+          rw items (lists_one scope (length c.vars.result.now) c.loop-x.x (c.loop-x.x + 1) c.loop-x.variables.items (omega arith) (omega arith)
+          (sym decides ∙ w.if-has.true) c.loop-x.invariant)
       | else-has w ↦
-          rw w.variables-is (lists_other scope (length c.vars.result.now) c.loop-x.x (c.loop-x.x + 1) c.loop-x.variables.items (omega arith) (omega arith) (sym decides ∙ w.if-has.false) c.loop-x.invariant)
+          rw w.variables-is (lists_other scope (length c.vars.result.now) c.loop-x.x (c.loop-x.x + 1) c.loop-x.variables.items (omega arith) (omega arith)
+          (sym decides ∙ w.if-has.false) c.loop-x.invariant)
     ]

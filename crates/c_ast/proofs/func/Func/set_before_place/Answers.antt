@@ -13,4 +13,5 @@ unwrap-requires c =
 pub returns-in_ok-found-in-Mark-clause-found : goal.returns-in_ok-found-in-Mark-clause-found
 returns-in_ok-found-in-Mark-clause-found c =
     let found = c.in_ok-found-in-Mark.ensures ∙ ap (λ b. set_before c.in-Mark.mark (statements_of b)) c.body-body.ensures.body in
-    set_before_mark (program_of c.args.self.now) c.body-body.ensures.formed c.in-Mark.mark c.args.place c.in-Mark.is c.unwrap.result (sym c.unwrap.ensures ∙ found)
+    set_before_mark (program_of c.args.self.now) c.body-body.ensures.formed c.in-Mark.mark c.args.place c.in-Mark.is c.unwrap.result (sym c.unwrap.ensures
+    ∙ found)

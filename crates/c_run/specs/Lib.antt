@@ -1,0 +1,3 @@
+pub mod Event
+pub mod Shown
+pub mod Within
