@@ -1,4 +1,5 @@
 pub mod Samples
+pub mod Dividing
 pub mod Slots
 pub mod Marking
 pub mod Pushing
@@ -12,3 +13,5 @@ pub mod Counting
 pub mod Naming
 pub mod Checking
 pub mod Answering
+pub mod Conditions
+pub mod Laws

@@ -17,23 +17,31 @@ level stmt shape others is =
     ap (λ (front : RawStatements → RawStatements). front others) (fold_out-RawStmt (RawStatements → RawStatements) raw_statement_level stmt)
     ∙ ap (λ (some_shape : RawStmt-F RawStmt). raw_statement_level (map-RawStmt RawStmt (RawStatements → RawStatements) raw_put_in_front some_shape) others) is
 
-pub front-Declare : (declarators : List RawDeclarator) (others : RawStatements) → raw_put_in_front (Declare declarators) others ≡ tree.Declare (map raw_declared_of declarators) others
+pub front-Declare : (declarators : List RawDeclarator) (others : RawStatements)
+    → raw_put_in_front (Declare declarators) others ≡ tree.Declare (map raw_declared_of declarators) others
 front-Declare declarators others = level (Declare declarators) _ others (outs-Declare declarators)
 
-pub front-Assign : (name : List ℕ) (line : ℕ) (expr : RawExpr) (others : RawStatements) → raw_put_in_front (Assign name line expr) others ≡ tree.Assign name line (raw_expression_of expr) others
+pub front-Assign : (name : List ℕ) (line : ℕ) (expr : RawExpr) (others : RawStatements)
+    → raw_put_in_front (Assign name line expr) others ≡ tree.Assign name line (raw_expression_of expr) others
 front-Assign name line expr others = level (Assign name line expr) _ others (outs-Assign name line expr)
 
-pub front-If : (test : RawExpr) (branch : RawStmt) (alternative : Option RawStmt) (others : RawStatements) → raw_put_in_front (If test branch alternative) others ≡ raw_branches (raw_expression_of test) (raw_one (raw_put_in_front branch)) (option_map raw_put_in_front alternative) others
+pub front-If : (test : RawExpr) (branch : RawStmt) (alternative : Option RawStmt) (others : RawStatements)
+    → raw_put_in_front (If test branch alternative) others ≡ raw_branches (raw_expression_of test) (raw_one (raw_put_in_front branch))
+    (option_map raw_put_in_front alternative) others
 front-If test branch None others = level (If test branch None) _ others (outs-If test branch None)
 front-If test branch (Some alternative) others = level (If test branch (Some alternative)) _ others (outs-If test branch (Some alternative))
 
-pub front-While : (test : RawCond) (turn : RawStmt) (others : RawStatements) → raw_put_in_front (While test turn) others ≡ tree.While (raw_condition_of test) (raw_one (raw_put_in_front turn)) others
+pub front-While : (test : RawCond) (turn : RawStmt) (others : RawStatements)
+    → raw_put_in_front (While test turn) others ≡ tree.While (raw_condition_of test) (raw_one (raw_put_in_front turn)) others
 front-While test turn others = level (While test turn) _ others (outs-While test turn)
 
-pub front-Do : (turn : RawStmt) (test : RawCond) (others : RawStatements) → raw_put_in_front (Do turn test) others ≡ tree.Do (raw_one (raw_put_in_front turn)) (raw_condition_of test) others
+pub front-Do : (turn : RawStmt) (test : RawCond) (others : RawStatements)
+    → raw_put_in_front (Do turn test) others ≡ tree.Do (raw_one (raw_put_in_front turn)) (raw_condition_of test) others
 front-Do turn test others = level (Do turn test) _ others (outs-Do turn test)
 
-pub front-For : (start : Option RawStmt) (test : Option RawCond) (step : Option RawStmt) (turn : RawStmt) (others : RawStatements) → raw_put_in_front (For start test step turn) others ≡ tree.For (raw_optional (option_map raw_put_in_front start)) (option_map raw_condition_of test) (raw_optional (option_map raw_put_in_front step)) (raw_one (raw_put_in_front turn)) others
+pub front-For : (start : Option RawStmt) (test : Option RawCond) (step : Option RawStmt) (turn : RawStmt) (others : RawStatements)
+    → raw_put_in_front (For start test step turn) others ≡ tree.For (raw_optional (option_map raw_put_in_front start)) (option_map raw_condition_of test)
+    (raw_optional (option_map raw_put_in_front step)) (raw_one (raw_put_in_front turn)) others
 front-For None None None turn others = level (For None None None turn) _ others (outs-For None None None turn)
 front-For None None (Some step) turn others = level (For None None (Some step) turn) _ others (outs-For None None (Some step) turn)
 front-For None (Some test) None turn others = level (For None (Some test) None turn) _ others (outs-For None (Some test) None turn)
@@ -41,7 +49,8 @@ front-For None (Some test) (Some step) turn others = level (For None (Some test)
 front-For (Some start) None None turn others = level (For (Some start) None None turn) _ others (outs-For (Some start) None None turn)
 front-For (Some start) None (Some step) turn others = level (For (Some start) None (Some step) turn) _ others (outs-For (Some start) None (Some step) turn)
 front-For (Some start) (Some test) None turn others = level (For (Some start) (Some test) None turn) _ others (outs-For (Some start) (Some test) None turn)
-front-For (Some start) (Some test) (Some step) turn others = level (For (Some start) (Some test) (Some step) turn) _ others (outs-For (Some start) (Some test) (Some step) turn)
+front-For (Some start) (Some test) (Some step) turn others =
+    level (For (Some start) (Some test) (Some step) turn) _ others (outs-For (Some start) (Some test) (Some step) turn)
 
 pub front-Break : (line : ℕ) (others : RawStatements) → raw_put_in_front (Break line) others ≡ tree.Break line others
 front-Break line others = level (Break line) _ others (outs-Break line)

@@ -15,8 +15,11 @@ use Rattle.c_check.specs.Entries.{binding_of, NamedSlot, named, slots_in, slot_o
 -- ---- what a name stands for
 
 number_step : (holds : Bool) (slot : Slot) (found : Option Binding) (others : Option NamedSlot) (binding : Binding) (first : NamedSlot)
-    → binding.number ≡ first.slot.number → option_map (λ (some_binding : Binding). some_binding.number) found ≡ option_map (λ (some_slot : Slot). some_slot.number) (option_map (λ (found_slot : NamedSlot). found_slot.slot) others)
-    → option_map (λ (some_binding : Binding). some_binding.number) (cond holds (Some binding) found) ≡ option_map (λ (some_slot : Slot). some_slot.number) (option_map (λ (found_slot : NamedSlot). found_slot.slot) (cond holds (Some first) others))
+    → binding.number ≡ first.slot.number
+    → option_map (λ (some_binding : Binding). some_binding.number) found ≡ option_map (λ (some_slot : Slot). some_slot.number)
+    (option_map (λ (found_slot : NamedSlot). found_slot.slot) others)
+    → option_map (λ (some_binding : Binding). some_binding.number) (cond holds (Some binding) found) ≡ option_map (λ (some_slot : Slot). some_slot.number)
+    (option_map (λ (found_slot : NamedSlot). found_slot.slot) (cond holds (Some first) others))
 number_step true slot found others binding first same rest = ap Some same
 number_step false slot found others binding first same rest = rest
 
@@ -25,13 +28,17 @@ number_in : (name : List ℕ) (depth : ℕ) (entries : List Entry) (behind : Lis
     → number_of (map binding_of entries ++ scope) name ≡ option_map (λ (some_slot : Slot). some_slot.number) (slot_of (slots_in depth entries ++ behind) name)
 number_in name depth [] behind scope is = is
 number_in name depth (entry ∷ entries) behind scope is =
-    number_step (bytes_eq name (string_bytes entry.name)) (named depth entry).slot (find (λ (other : Binding). bytes_eq name other.name) (map binding_of entries ++ scope))
-    (find (λ (other : NamedSlot). bytes_eq name other.name) (slots_in depth entries ++ behind)) (binding_of entry) (named depth entry) refl (number_in name depth entries behind scope is)
+    number_step (bytes_eq name (string_bytes entry.name)) (named depth entry).slot
+    (find (λ (other : Binding). bytes_eq name other.name) (map binding_of entries ++ scope))
+    (find (λ (other : NamedSlot). bytes_eq name other.name) (slots_in depth entries ++ behind)) (binding_of entry) (named depth entry) refl
+    (number_in name depth entries behind scope is)
 
 -- the number of a name's variable is that of its slot
-pub number_of_slot : (name : List ℕ) (blocks : List (List Entry)) → number_of (in_all (map (map binding_of) blocks)) name ≡ option_map (λ (some_slot : Slot). some_slot.number) (slot_of (slots_of blocks) name)
+pub number_of_slot : (name : List ℕ) (blocks : List (List Entry))
+    → number_of (in_all (map (map binding_of) blocks)) name ≡ option_map (λ (some_slot : Slot). some_slot.number) (slot_of (slots_of blocks) name)
 number_of_slot name [] = refl
-number_of_slot name (block ∷ blocks) = number_in name (length blocks) block (slots_of blocks) (in_all (map (map binding_of) blocks)) (number_of_slot name blocks)
+number_of_slot name (block ∷ blocks) = number_in name (length blocks) block (slots_of blocks) (in_all (map (map binding_of) blocks))
+    (number_of_slot name blocks)
 
 -- ---- the innermost block
 
@@ -44,7 +51,8 @@ below_more : (depth : ℕ) (more : ℕ) (found : Option Slot) → depth < more �
 below_more depth more None less below = tt
 below_more depth more (Some slot) less below = omega (arith, below)
 
-below_step : (holds : Bool) (depth : ℕ) (first : NamedSlot) (others : Option NamedSlot) → first.slot.depth < depth → FindsBelow depth (option_map (λ (found_slot : NamedSlot). found_slot.slot) others)
+below_step : (holds : Bool) (depth : ℕ) (first : NamedSlot) (others : Option NamedSlot) → first.slot.depth < depth
+    → FindsBelow depth (option_map (λ (found_slot : NamedSlot). found_slot.slot) others)
     → FindsBelow depth (option_map (λ (found_slot : NamedSlot). found_slot.slot) (cond holds (Some first) others))
 below_step true depth first others less below = less
 below_step false depth first others less below = below
@@ -53,7 +61,8 @@ below_in : (name : List ℕ) (depth more : ℕ) (entries : List Entry) (behind :
     → FindsBelow more (slot_of (slots_in depth entries ++ behind) name)
 below_in name depth more [] behind less below = below
 below_in name depth more (entry ∷ entries) behind less below =
-    below_step (bytes_eq name (string_bytes entry.name)) more (named depth entry) (find (λ (other : NamedSlot). bytes_eq name other.name) (slots_in depth entries ++ behind)) less
+    below_step (bytes_eq name (string_bytes entry.name)) more (named depth entry)
+    (find (λ (other : NamedSlot). bytes_eq name other.name) (slots_in depth entries ++ behind)) less
     (below_in name depth more entries behind less below)
 
 slots_below : (name : List ℕ) (blocks : List (List Entry)) → FindsBelow (length blocks) (slot_of (slots_of blocks) name)
@@ -71,7 +80,8 @@ found_below : (depth : ℕ) (found : Option Slot) → FindsBelow depth found →
 found_below depth None below = refl
 found_below depth (Some slot) below = search (arith, below)
 
-found_step : (holds : Bool) (depth : ℕ) (first : NamedSlot) (others : Option NamedSlot) (held : Bool) → first.slot.depth ≡ depth → found_at depth (option_map (λ (found_slot : NamedSlot). found_slot.slot) others) ≡ held
+found_step : (holds : Bool) (depth : ℕ) (first : NamedSlot) (others : Option NamedSlot) (held : Bool) → first.slot.depth ≡ depth
+    → found_at depth (option_map (λ (found_slot : NamedSlot). found_slot.slot) others) ≡ held
     → found_at depth (option_map (λ (found_slot : NamedSlot). found_slot.slot) (cond holds (Some first) others)) ≡ (holds || held)
 found_step true depth first others held same rest = rw same (search arith)
 found_step false depth first others held same rest = rest
@@ -80,11 +90,13 @@ found_in : (name : List ℕ) (depth : ℕ) (entries : List Entry) (behind : List
     → found_at depth (slot_of (slots_in depth entries ++ behind) name) ≡ holds_name (names_of (map binding_of entries)) name
 found_in name depth [] behind below = found_below depth (slot_of behind name) below
 found_in name depth (entry ∷ entries) behind below =
-    found_step (bytes_eq name (string_bytes entry.name)) depth (named depth entry) (find (λ (other : NamedSlot). bytes_eq name other.name) (slots_in depth entries ++ behind))
+    found_step (bytes_eq name (string_bytes entry.name)) depth (named depth entry)
+    (find (λ (other : NamedSlot). bytes_eq name other.name) (slots_in depth entries ++ behind))
     (holds_name (names_of (map binding_of entries)) name) refl (found_in name depth entries behind below)
 
 -- the innermost block declares a name where what the name stands for lies in no fewer blocks
-pub found_in_block : (name : List ℕ) (block : List Entry) (blocks : List (List Entry)) → found_at (length blocks) (slot_of (slots_of (block ∷ blocks)) name) ≡ holds_name (names_of (map binding_of block)) name
+pub found_in_block : (name : List ℕ) (block : List Entry) (blocks : List (List Entry))
+    → found_at (length blocks) (slot_of (slots_of (block ∷ blocks)) name) ≡ holds_name (names_of (map binding_of block)) name
 found_in_block name block blocks = found_in name (length blocks) block (slots_of blocks) (slots_below name blocks)
 
 pub declares_some : (name : List ℕ) (block : List Entry) (blocks : List (List Entry)) (slot : Slot) → slot_of (slots_of (block ∷ blocks)) name ≡ Some slot
@@ -105,12 +117,15 @@ turned-push blocks block = ap reverse (map-push blocks) ∙ reverse-append (map 
     map-push [] = refl
     map-push (first ∷ others) = ap (λ (list : List (List Entry)). reverse first ∷ list) (map-push others)
 
-set_step : (holds : Bool) (name : List ℕ) (entry : List ℕ) (written : Option Slot) (first : NamedSlot) (others : Option NamedSlot) → bytes_eq entry name ≡ holds → written ≡ Some first.slot
-    → cond (bytes_eq entry name) written (option_map (λ (found_slot : NamedSlot). found_slot.slot) others) ≡ option_map (λ (found_slot : NamedSlot). found_slot.slot) (cond (bytes_eq name entry) (Some first) others)
+set_step : (holds : Bool) (name : List ℕ) (entry : List ℕ) (written : Option Slot) (first : NamedSlot) (others : Option NamedSlot)
+    → bytes_eq entry name ≡ holds → written ≡ Some first.slot
+    → cond (bytes_eq entry name) written (option_map (λ (found_slot : NamedSlot). found_slot.slot) others) ≡ option_map
+    (λ (found_slot : NamedSlot). found_slot.slot) (cond (bytes_eq name entry) (Some first) others)
 set_step true name entry written first others same is = rw (nat_list_eq_equiv.symm name entry, same) is
 set_step false name entry written first others same is = rw (nat_list_eq_equiv.symm name entry, same) refl
 
-back_step : (holds : Bool) (name : List ℕ) (entry : List ℕ) (written : Option Slot) (first : NamedSlot) (others : List NamedSlot) → bytes_eq entry name ≡ holds → written ≡ slot_of others entry
+back_step : (holds : Bool) (name : List ℕ) (entry : List ℕ) (written : Option Slot) (first : NamedSlot) (others : List NamedSlot)
+    → bytes_eq entry name ≡ holds → written ≡ slot_of others entry
     → first.name ≡ entry → cond (bytes_eq entry name) written (slot_of (first ∷ others) name) ≡ slot_of others name
 back_step true name entry written first others same is at = rw same (is ∙ ap (slot_of others) ((bytes_decides entry name).0 same))
 back_step false name entry written first others same is at = rw (same, at, nat_list_eq_equiv.symm name entry, same) refl
@@ -125,7 +140,8 @@ module _ {Y S : Type 0} where
   leaves newest blocks is = record { current = is.current; hidden = is.hidden.1 }
 
   -- the map gets the newest variable, which keeps the one that it hides
-  pub declares : (old new : HashMap (String Y) Slot S) (entry : Entry) (slot : Slot) (block : List Entry) (blocks : List (List Entry)) → IsTable old (block ∷ blocks)
+  pub declares : (old new : HashMap (String Y) Slot S) (entry : Entry) (slot : Slot) (block : List Entry) (blocks : List (List Entry))
+      → IsTable old (block ∷ blocks)
       → slot ≡ (named (length blocks) entry).slot → entry.hidden ≡ get_by_text old (string_bytes entry.name)
       → ((name : List ℕ) → get_by_text new name ≡ update bytes_eq (get_by_text old) (string_bytes entry.name) (Some slot) name)
       → IsTable new ((entry ∷ block) ∷ blocks)
@@ -138,7 +154,8 @@ module _ {Y S : Type 0} where
   }
 
   -- the map gets back what the newest variable hides
-  pub restores : (old new : HashMap (String Y) Slot S) (entry : Entry) (block : List Entry) (blocks : List (List Entry)) → IsTable old ((entry ∷ block) ∷ blocks)
+  pub restores : (old new : HashMap (String Y) Slot S) (entry : Entry) (block : List Entry) (blocks : List (List Entry))
+      → IsTable old ((entry ∷ block) ∷ blocks)
       → ((name : List ℕ) → get_by_text new name ≡ update bytes_eq (get_by_text old) (string_bytes entry.name) entry.hidden name)
       → IsTable new (block ∷ blocks)
   restores old new entry block blocks is sets = record {
@@ -150,7 +167,8 @@ module _ {Y S : Type 0} where
   }
 
 -- what a block declares last is in the map
-pub newest_is_some : {Y S : Type 0} (newest : HashMap (String Y) Slot S) (entry : Entry) (block : List Entry) (blocks : List (List Entry)) → IsTable newest ((entry ∷ block) ∷ blocks)
+pub newest_is_some : {Y S : Type 0} (newest : HashMap (String Y) Slot S) (entry : Entry) (block : List Entry) (blocks : List (List Entry))
+    → IsTable newest ((entry ∷ block) ∷ blocks)
     → IsSome (get_by_text newest (string_bytes entry.name))
 newest_is_some newest entry block blocks is =
     let current = is.current (string_bytes entry.name) in
@@ -165,7 +183,8 @@ set_last [] x y = refl
 set_last (z ∷ xs) x y = ap (λ list. z ∷ list) (set_last xs x y)
 
 -- a map with the same entries has the same table
-pub same_entries : {Y S : Type 0} (old new : HashMap (String Y) Slot S) (blocks : List (List Entry)) → new.entries ≡ old.entries → IsTable old blocks → IsTable new blocks
+pub same_entries : {Y S : Type 0} (old new : HashMap (String Y) Slot S) (blocks : List (List Entry)) → new.entries ≡ old.entries → IsTable old blocks
+    → IsTable new blocks
 same_entries old new blocks same is = record {
   current = λ name. rw same (is.current name);
   hidden = is.hidden;

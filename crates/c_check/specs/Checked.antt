@@ -15,6 +15,7 @@ use Rattle.c_check.specs.Faults.{first_fault}
 abbrev pub variables_of : RawFunction → List Var
 variables_of func = func.params ++ declared_in func.body
 
+-- the first fault of a function, if it has one
 abbrev pub fault_in : RawFunction → Option CheckFault
 fault_in func = first_fault [] (occurrences_of func)
 
@@ -43,7 +44,8 @@ HoldsOne unit func = unit ≡ func ∷ []
 abbrev pub IsCheckFault : List RawFunction → CheckFault → Type 0
 IsCheckFault unit fault.NoFunction = unit ≡ []
 IsCheckFault unit (fault.ManyFunctions n) = (2 ≤ n) × (length unit ≡ n)
-IsCheckFault unit (fault.ManyVariables n) = (func : RawFunction) × HoldsOne unit func × (fault_in func ≡ None) × (length (variables_of func) ≡ n) × (64 < n)
+IsCheckFault unit (fault.ManyVariables n) =
+    (func : RawFunction) × HoldsOne unit func × (fault_in func ≡ None) × (length (variables_of func) ≡ n) × (64 < n)
 IsCheckFault unit fault.Memory = Unit {0}
 IsCheckFault unit first = (func : RawFunction) × HoldsOne unit func × (fault_in func ≡ Some first)
 
@@ -53,4 +55,5 @@ Checks unit made = (func : RawFunction) × HoldsOne unit func × IsChecked func 
 
 -- A file stands for one function at most.
 abbrev pub IsSameFunction : Type 0
-IsSameFunction = (unit : List RawFunction) (first second : Function) → Checks unit first → Checks unit second → first ≡ second
+IsSameFunction =
+    (unit : List RawFunction) (first second : Function) → Checks unit first → Checks unit second → first ≡ second

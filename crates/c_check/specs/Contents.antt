@@ -13,10 +13,12 @@ declared_in Nil = []
 declared_in (Declare declarators others) = declared_by declarators ++ declared_in others
 declared_in (Assign name line expr others) = declared_in others
 declared_in (If test branch others) = declared_in branch ++ declared_in others
-declared_in (IfElse test branch alternative others) = declared_in branch ++ (declared_in alternative ++ declared_in others)
+declared_in (IfElse test branch alternative others) =
+    declared_in branch ++ (declared_in alternative ++ declared_in others)
 declared_in (While test body others) = declared_in body ++ declared_in others
 declared_in (Do body test others) = declared_in body ++ declared_in others
-declared_in (For start test step body others) = declared_in start ++ (declared_in step ++ (declared_in body ++ declared_in others))
+declared_in (For start test step body others) =
+    declared_in start ++ (declared_in step ++ (declared_in body ++ declared_in others))
 declared_in (Break line others) = declared_in others
 declared_in (Continue line others) = declared_in others
 declared_in (Return expr others) = declared_in others
@@ -33,7 +35,8 @@ loops_in (If test branch others) = loops_in branch + loops_in others
 loops_in (IfElse test branch alternative others) = loops_in branch + (loops_in alternative + loops_in others)
 loops_in (While test body others) = suc (loops_in body + loops_in others)
 loops_in (Do body test others) = suc (loops_in body + loops_in others)
-loops_in (For start test step body others) = suc (loops_in start + (loops_in step + (loops_in body + loops_in others)))
+loops_in (For start test step body others) =
+    suc (loops_in start + (loops_in step + (loops_in body + loops_in others)))
 loops_in (Break line others) = loops_in others
 loops_in (Continue line others) = loops_in others
 loops_in (Return expr others) = loops_in others

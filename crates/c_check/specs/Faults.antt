@@ -4,18 +4,22 @@ use Rattle.std.specs.List.{list_any}
 use Rattle.std.specs.Option.{option_or}
 use Rattle.c_check.specs.declared.fault.CheckFault.{CheckFault}
 use Rattle.c_check.specs.declared.fault.CheckFault.TheVariants as fault
-use Rattle.c_check.specs.Occurrences.{Names, Occurrence, Use, Declaration, Jump, Marked}
+use Rattle.c_check.specs.Occurrences.{Names, Occurrence, Use, Division, Declaration, Jump, Marked}
 use Rattle.c_check.specs.Resolves.{first_automatic}
 
+-- whether the name is among these
 abbrev pub holds_name : Names → List ℕ → Bool
 holds_name names name = list_any (λ other. bytes_eq name other) names
 
+-- whether the mark is among these
 abbrev pub holds_mark : List ℕ → ℕ → Bool
 holds_mark marks mark = list_any (λ other. other == mark) marks
 
 -- the fault of an occurrence behind these marks, if it is one
 abbrev pub fault_of : List ℕ → Occurrence → Option CheckFault
 fault_of marks (Use scope name line) = if holds_name scope name then None else Some (fault.Undeclared name line)
+fault_of marks (Division None line) = Some (fault.Divisor line)
+fault_of marks (Division (Some divisor) line) = None
 fault_of marks (Declaration block name line) = if holds_name block name then Some (fault.Twice name line) else None
 fault_of marks (Jump in_loop line) = if in_loop then None else Some (fault.Outside line)
 fault_of marks (Marked mark) =
@@ -30,4 +34,5 @@ with_mark marks _ = marks
 -- the first fault behind these marks, if there is one
 abbrev pub first_fault : List ℕ → List Occurrence → Option CheckFault
 first_fault marks [] = None
-first_fault marks (occurrence ∷ occurrences) = option_or (fault_of marks occurrence) (first_fault (with_mark marks occurrence) occurrences)
+first_fault marks (occurrence ∷ occurrences) =
+    option_or (fault_of marks occurrence) (first_fault (with_mark marks occurrence) occurrences)

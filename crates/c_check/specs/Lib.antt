@@ -1,8 +1,10 @@
 pub mod Contents
+pub mod Divisors
 pub mod Resolves
 pub mod Occurrences
 pub mod Faults
 pub mod Checked
+pub mod Condition
 pub mod Table
 pub mod Resolving
 pub mod Entries

@@ -1,12 +1,13 @@
-//! Why a file as it was read is no function.
+//! Why a file as it was read is no function, or a condition as it was read none on its inputs.
 ghost use Rattle.std.specs.Prelude.{◌≡◌};
 ghost use Rattle.c_check.specs.declared.fault.CheckFault.TheVariants.{Memory};
 
 use c_ast::Name;
 use std::alloc::{AllocError, AllocFailed};
 
-/// Why a file is no function, in the order in which it is judged: the first two, then the first in source order of
-/// the next five, then `ManyVariables`. Lines count from 1.
+/// Why a file is no function, in the order in which it is judged: the first two, then the first in
+/// source order of the next six, then `ManyVariables`. A condition has `Undeclared`, `Divisor` and
+/// `Memory` alone. Lines count from 1.
 #[derive(Debug, Drop)]
 pub enum CheckFault {
     /// It holds no function.
@@ -23,6 +24,9 @@ pub enum CheckFault {
     MarkRange(u64),
     /// The mark stands twice.
     MarkTwice(u64),
+    /// The right operand of the `/` or `%` on this line is no nonzero constant under unary signs
+    /// and brackets (6.5.5).
+    Divisor { line: u32 },
     /// It declares this many variables, parameters among them: more than 64.
     ManyVariables(u32),
     /// Memory ran out.

@@ -1,4 +1,7 @@
-//! The marks that were named.
+//! The marks that a function names.
+//!
+//! Each stands once in it and is below a million: from there on the numbers are those of automatic
+//! marks.
 ghost use Rattle.std.specs.Prelude.{◌≡◌, ◌∷◌, [], MatchResult, Some, None};
 ghost use Rattle.c_check.specs.declared.fault.CheckFault.TheVariants as fault;
 

@@ -1,8 +1,11 @@
 //! What is known at a place of a file that is gone over in the order of the source.
+//!
+//! Variables and loops are numbered in that order, from 0. The methods that go over expressions,
+//! loops, declarations and statements stand in files of these names.
 ghost use Rattle.std.specs.Prelude.{◌≡◌, ◌<◌, ◌+◌, ◌^◌, length, MatchResult, IfOk, IfErr, OnOk, Ok};
 ghost use Rattle.c_check.specs.declared.fault.CheckFault.TheVariants as fault;
 ghost use Rattle.c_check.specs.Resolves.{first_automatic};
-ghost use Rattle.c_check.specs.Resolving.{Fails, entered, left, with_loop, nothing_known, declared_at, marked_at};
+ghost use Rattle.c_check.specs.Resolving.{Fails, entered, left, with_loop, with_variable, with_variables, nothing_known, declared_at, marked_at};
 
 use crate::CheckFault;
 use crate::marks::{FIRST_AUTOMATIC, Marks};
@@ -14,6 +17,8 @@ use std::alloc::Global;
 /// What the statements before a place have declared and named.
 #[derive(Drop)]
 pub(crate) struct Resolver {
+    /// Where the trees are made.
+    pub(crate) alloc: Global,
     /// The variables in scope.
     pub(crate) table: Table,
     /// All variables, by number.
@@ -38,9 +43,10 @@ fn numbered(count: usize) -> Result<u32, CheckFault>
 impl Resolver {
     /// Nothing stands before the place.
     pub(crate) fn new(alloc: Global) -> Resolver
-        ensures { result ≡ nothing_known }
+        ensures { result ≡ nothing_known alloc }
     {
         Resolver {
+            alloc,
             table: Table::new(alloc),
             vars: Items::new(alloc),
             marks: Marks::new(alloc),
@@ -49,23 +55,50 @@ impl Resolver {
     }
 
     /// A block begins.
-    pub(crate) fn enter(&mut self, alloc: Global) -> Result<(), CheckFault>
+    pub(crate) fn enter(&mut self) -> Result<(), CheckFault>
         ensures entered { OnOk result (self.new ≡ entered self.old) }
         ensures memory { IfErr result (λ first. first ≡ fault.Memory) }
     {
-        self.table.enter(alloc)?;
+        self.table.enter(self.alloc)?;
         Ok(())
     }
 
     /// A block ends.
-    pub(crate) fn leave(&mut self, alloc: Global)
+    pub(crate) fn leave(&mut self)
         ensures { self.new ≡ left self.old }
     {
-        self.table.leave(alloc);
+        self.table.leave(self.alloc);
+    }
+
+    /// The innermost block gets a variable, whatever it has; the variable's number is answered.
+    fn add(&mut self, var: &Var) -> Result<u32, CheckFault>
+        ensures added { OnOk result (self.new ≡ with_variable self.old var.now) }
+        ensures number { IfOk result (λ number. number ≡ length self.old.vars) }
+        ensures memory { IfErr result (λ first. first ≡ fault.Memory) }
+    {
+        let number = numbered(self.vars.as_slice().len())?;
+        self.table.declare(self.alloc, &var.name, number)?;
+        let name = var.name.copy()?;
+        self.vars.push(Var {
+            name,
+            line: var.line,
+        })?;
+        Ok(number)
+    }
+
+    /// The innermost block gets these variables, whatever it has.
+    pub(crate) fn add_all(&mut self, vars: &[Var]) -> Result<(), CheckFault>
+        ensures added { OnOk result (self.new ≡ with_variables self.old vars.now) }
+        ensures memory { IfErr result (λ first. first ≡ fault.Memory) }
+    {
+        for var in vars {
+            self.add(var)?;
+        }
+        Ok(())
     }
 
     /// The innermost block declares a variable; its number is answered.
-    pub(crate) fn declare(&mut self, alloc: Global, var: &Var) -> Result<u32, CheckFault>
+    pub(crate) fn declare(&mut self, var: &Var) -> Result<u32, CheckFault>
         ensures { MatchResult result
             (λ number. (declared_at self.old var.now ≡ Ok self.new)
             × (number ≡ length self.old.vars))
@@ -78,13 +111,7 @@ impl Resolver {
                 line: var.line,
             });
         }
-        let number = numbered(self.vars.as_slice().len())?;
-        self.table.declare(alloc, &var.name, number)?;
-        let name = var.name.copy()?;
-        self.vars.push(Var {
-            name,
-            line: var.line,
-        })?;
+        let number = self.add(var)?;
         Ok(number)
     }
 

@@ -1,7 +1,7 @@
 //! The variables in scope, and those of the innermost block (ISO C11, 6.2.1).
 //!
-//! A map has for each name in scope its newest variable. Each variable keeps the one that it hides, which the map gets back
-//! where its block ends.
+//! A map has for each name in scope its newest variable. Each variable keeps the one that it hides,
+//! which the map gets back where its block ends.
 ghost use Rattle.std.specs.Prelude.{◌≡◌, ℕ, List, IsSome, IfErr, OnOk, bytes_eq};
 ghost use Rattle.std.specs.HashMap.{get_by_text};
 ghost use Rattle.std.specs.Map.{update};

@@ -1,10 +1,12 @@
 //! Files as a reader would read them, and what they stand for.
-ghost use Rattle.c_ast.specs.RawShape.{AreShaped};
-ghost use Rattle.c_ast.specs.RawView.{raw_put_in_front, raw_one, raw_statements_of};
+ghost use Rattle.c_ast.specs.RawShape.{AreShaped, HasNaturalConstants};
+ghost use Rattle.c_ast.specs.RawView.{raw_expression_of, raw_put_in_front, raw_one, raw_statements_of};
 ghost use Rattle.std.specs.Prelude.{◌≡◌, IfOk};
 
-use crate::{CheckFault, check, one_function};
-use c_ast::{Func, Name, RawCond, RawDeclarator, RawExpr, RawFunc, RawStmt, RawUnit, Var};
+use crate::{CheckFault, check, check_condition, one_condition, one_function};
+use c_ast::{
+    BinOp, Func, Name, RawCond, RawDeclarator, RawExpr, RawFunc, RawStmt, RawUnit, UnOp, Var,
+};
 use sqlite_items::{Boxed, Items};
 use std::alloc::{AllocError, Global};
 use std::test::Fail;
@@ -92,6 +94,40 @@ fn shown(alloc: Global, answer: Result<Func, CheckFault>) -> Result<String, Allo
     }
 }
 
+/// The expression behind a sign.
+fn signed(alloc: Global, op: UnOp, expr: RawExpr) -> Result<RawExpr, AllocError>
+    requires { HasNaturalConstants (raw_expression_of expr) }
+    ensures { IfOk result (λ made. HasNaturalConstants (raw_expression_of made)) }
+{
+    Ok(RawExpr::Un(op, Boxed::new(alloc, expr)?))
+}
+
+/// A division of `a0` on line 7, as the answer to a condition on a function with so many parameters.
+fn divided(alloc: Global, count: u32, op: BinOp, divisor: RawExpr) -> Result<String, AllocError>
+    requires { HasNaturalConstants (raw_expression_of divisor) }
+{
+    let left = RawExpr::Var(name(alloc, "a0")?, 1);
+    let left = Boxed::new(alloc, left)?;
+    let right = Boxed::new(alloc, divisor)?;
+    condition(alloc, count, RawExpr::Bin(op, 7, left, right))
+}
+
+/// The answer to a condition on a function with so many parameters.
+fn condition(alloc: Global, count: u32, raw: RawExpr) -> Result<String, AllocError>
+    requires { HasNaturalConstants (raw_expression_of raw) }
+{
+    let params = many(alloc, count)?;
+    let func = function(alloc, params, Items::new(alloc))?;
+    let funcs = Items::from_vec(vec![in alloc; func]?);
+    match check(alloc, RawUnit { funcs }) {
+        Err(fault) => format!(in alloc; "{fault:?}"),
+        Ok(func) => match check_condition(alloc, raw, &func) {
+            Ok(made) => format!(in alloc; "{made:?}"),
+            Err(fault) => format!(in alloc; "{fault:?}"),
+        },
+    }
+}
+
 #[test]
 fn files_hold_one_function(rt: HostRuntime) -> Result<(), Fail> {
     let alloc = rt.alloc();
@@ -150,6 +186,57 @@ fn faults_are_found(rt: HostRuntime) -> Result<(), Fail> {
             answer(alloc, 0, turning(alloc, Some(7))?)?,
             "Undeclared { name: Name(\"a0\"), line: 1 }",
         ),
+    ];
+    for (text, want) in rows {
+        assert_eq!(rt; text.as_str(), want);
+    }
+    Ok(())
+}
+
+#[test]
+fn divisors_are_constants(rt: HostRuntime) -> Result<(), Fail> {
+    let alloc = rt.alloc();
+    one_condition();
+    let three = signed(alloc, UnOp::Plus, RawExpr::Num(3))?;
+    let minus_three = signed(alloc, UnOp::Minus, RawExpr::Num(3))?;
+    let negative = signed(alloc, UnOp::Minus, RawExpr::Num(3))?;
+    let opposite = signed(alloc, UnOp::Minus, signed(alloc, UnOp::Minus, three)?)?;
+    let minus_zero = signed(alloc, UnOp::Minus, RawExpr::Num(0))?;
+    let not_zero = signed(alloc, UnOp::Not, RawExpr::Num(0))?;
+    let a0 = RawExpr::Var(name(alloc, "a0")?, 1);
+    let other = RawExpr::Var(name(alloc, "a1")?, 2);
+    let rows = [
+        (
+            divided(alloc, 1, BinOp::Div, opposite)?,
+            "Bin(Div, Var(0), Num(3))",
+        ),
+        (
+            divided(alloc, 1, BinOp::Div, minus_three)?,
+            "Un(Minus, Bin(Div, Var(0), Num(3)))",
+        ),
+        (
+            divided(alloc, 1, BinOp::Rem, negative)?,
+            "Bin(Rem, Var(0), Num(3))",
+        ),
+        (
+            divided(alloc, 1, BinOp::Div, RawExpr::Num(0))?,
+            "Divisor { line: 7 }",
+        ),
+        (
+            divided(alloc, 1, BinOp::Rem, minus_zero)?,
+            "Divisor { line: 7 }",
+        ),
+        (
+            divided(alloc, 1, BinOp::Div, not_zero)?,
+            "Divisor { line: 7 }",
+        ),
+        (divided(alloc, 1, BinOp::Div, a0)?, "Divisor { line: 7 }"),
+        (divided(alloc, 1, BinOp::Rem, other)?, "Divisor { line: 7 }"),
+        (
+            divided(alloc, 0, BinOp::Div, RawExpr::Num(0))?,
+            "Undeclared { name: Name(\"a0\"), line: 1 }",
+        ),
+        (condition(alloc, 0, RawExpr::Num(1))?, "Num(1)"),
     ];
     for (text, want) in rows {
         assert_eq!(rt; text.as_str(), want);

@@ -1,4 +1,7 @@
 //! The function of a file, or why it has none.
+//!
+//! A file holds one function. The number of its variables is judged last, where it has no other
+//! fault.
 ghost use Rattle.std.specs.Prelude.{◌≡◌, [], ◌∷◌, All, map, MatchResult, IfOk, IfErr, IfSome};
 ghost use Rattle.c_ast.specs.RawShape.{IsShaped};
 ghost use Rattle.c_ast.specs.RawView.{raw_function_of};
@@ -9,7 +12,6 @@ ghost use Rattle.c_check.specs.Resolving.{function_at, parameters_at, HasParts, 
 
 use crate::CheckFault;
 use crate::resolver::Resolver;
-use crate::walk::items;
 use c_ast::{Func, RawFunc, RawUnit, Stmt, Var};
 use sqlite_items::Items;
 use std::alloc::Global;
@@ -18,11 +20,11 @@ use std::alloc::Global;
 const VARIABLES: usize = 64;
 
 /// Declares the parameters.
-fn parameters(alloc: Global, at: &mut Resolver, params: &[Var]) -> Result<(), CheckFault>
+fn parameters(at: &mut Resolver, params: &[Var]) -> Result<(), CheckFault>
     ensures { Gives (λ _. at.new) result (parameters_at at.old params.now) }
 {
     for param in params {
-        at.declare(alloc, param)?;
+        at.declare(param)?;
     }
     Ok(())
 }
@@ -37,13 +39,13 @@ struct Parts {
 /// Goes over a function: its parameters, then its body.
 fn resolve(alloc: Global, func: &RawFunc) -> Result<Parts, CheckFault>
     ensures { MatchResult result
-        (λ found. HasParts (function_at (raw_function_of func.now))
+        (λ found. HasParts (function_at alloc (raw_function_of func.now))
         found.vars (statements_of found.body))
-        (Fails (function_at (raw_function_of func.now))) }
+        (Fails (function_at alloc (raw_function_of func.now))) }
 {
     let mut at = Resolver::new(alloc);
-    parameters(alloc, &mut at, func.params.as_slice())?;
-    let body = items(alloc, &mut at, false, func.body.as_slice())?;
+    parameters(&mut at, func.params.as_slice())?;
+    let body = at.items(false, func.body.as_slice())?;
     Ok(Parts {
         vars: at.vars,
         body,
@@ -96,8 +98,9 @@ fn check_function(alloc: Global, func: &RawFunc) -> Result<Func, CheckFault>
     Ok(Func::new(name, func.params.len() as u32, vars, body))
 }
 
-/// The function that the file stands for, with names resolved, loops in one form and automatic marks set. The unit is of
-/// the shape that a grammar gives. A refused unit is dropped.
+/// The function that the file stands for, with names resolved, divisors by their sizes, loops in
+/// one form and automatic marks set. The unit is of the shape that a grammar gives. A refused unit
+/// is dropped.
 pub fn check(alloc: Global, raw: RawUnit) -> Result<Func, CheckFault>
     requires shaped { All IsShaped (map raw_function_of raw.funcs) }
 
