@@ -1,28 +1,29 @@
 -- Sums that are made one row after the other, and the columns that blocks of sums cover.
-use Rattle.std.proofs.Common.{lit<, ◌≡◌, ◌↔◌, ℕ, ◌+◌, ◌-◌, ◌*◌, ◌<◌, ◌≤◌, ◌^◌, List, [], ◌∷◌, arith, refl, sym, ap, subst, length, get_or, set, take, drop, min, replicate, ◌∙◌, ⊎_elim}
+use Rattle.std.proofs.Common.{lit<, ◌≡◌, ◌↔◌, ℕ, zero, suc, Bool, false, map, ◌+◌, ◌-◌, ◌*◌, ◌<◌, ◌≤◌, ◌^◌, List, [], ◌∷◌, arith, refl, sym, subst, length, get_or, set, drop, min, replicate, ◌∙◌, ⊎_elim}
 use Rattle.std.specs.Prelude.{ℤ, pos, negsuc, ◌≤ℤ◌, ◌+ℤ◌, ◌*ℤ◌, unsigned_abs, All}
+use Rattle.std.specs.Bool.{OnFalse}
 use Rattle.std.specs.List.{AllZip, AllByRecursion}
 use Rattle.std.proofs.lemmas.Int.{ints}
 use Rattle.std.proofs.lemmas.Bool.{cases_lt}
 use Rattle.std.proofs.Math.ListN.{drop_of_length-le}
-use Rattle.std.proofs.lemmas.List.{length-map, drop_more, get_or_past, get_or-map, get_or-take, get_or-drop, get_or-set_same, get_or-set_other, take_rest, drop_min, take_min}
-use Rattle.std.proofs.lemmas.List.Elements.{All-get_or, All-from_get_or, All-take, All-drop, recursion_from_All}
+use Rattle.std.proofs.lemmas.List.{drop_more, get_or_past, get_or-map, get_or-set_same, get_or-set_other}
+use Rattle.std.proofs.lemmas.List.Elements.{All-get_or, All-from_get_or, recursion_from_All}
 use Rattle.lin_terms.specs.declared.row.Row.{Row}
 use Rattle.lin_terms.specs.Vectors.{dot}
-use Rattle.lin_terms.specs.Row.{IsNarrow, IsNarrowRow, columns_of, HaveOneLength}
-use Rattle.lin_terms.proofs.Dots.{get_or-zeros}
-use Rattle.lin_terms.proofs.Entries.{get_or_all}
-use Rattle.farkas_check.specs.Refutes.{column, constants, MayMultiply, Refutes}
+use Rattle.lin_terms.specs.Bounds.{FitsRow}
+use Rattle.lin_terms.specs.Row.{IsFittingRow, columns_of, HaveOneLength}
+use Rattle.lin_terms.proofs.Laws.{get_or-zeros, dot-drop}
+use Rattle.farkas_check.specs.Refutes.{column, constants, equalities, MayMultiply, Refutes}
 use Rattle.farkas_check.proofs.Wide.{unsigned_abs-product, unsigned_abs-sum}
 
 -- ---- one more product
 
-pub summed : (ms xs : List ℤ) (i : ℕ) (sum product all : ℤ) → i < length ms → i < length xs
+pub summed : (ms xs : List ℤ) (i : ℕ) (sum product all : ℤ) → i < length ms
     → product ≡ get_or ms i (pos 0) *ℤ get_or xs i (pos 0)
     → sum +ℤ dot (drop i ms) (drop i xs) ≡ all
     → (sum +ℤ product) +ℤ dot (drop (i + 1) ms) (drop (i + 1) xs) ≡ all
-summed ms xs i sum product all in_ms in_xs is so_far =
-    let next = rw (drop_more ms i (pos 0) in_ms, drop_more xs i (pos 0) in_xs, ← is) at so_far in
+summed ms xs i sum product all in_ms is so_far =
+    let next = rw (dot-drop ms xs i in_ms, ← is) at so_far in
     omega (arith, ints)
 
 pub grown : (i : ℕ) (sum product : ℤ) → unsigned_abs sum ≤ i * 2 ^ 112 → unsigned_abs product < 2 ^ 112
@@ -34,17 +35,6 @@ pub summed_all : (ms xs : List ℤ) (i : ℕ) (sum all : ℤ) → length ms ≤ 
 summed_all ms xs i sum all past so_far =
     let at_end = rw (drop_of_length-le ms past) at so_far in omega (arith, ints)
 
--- ---- the constants
-
-pub constant_summed : (ms : List ℤ) (rows : List Row) (i : ℕ) (row : Row) (sum product all : ℤ) → length ms ≡ length rows
-    → i < length rows → row ≡ get_or rows i row → product ≡ get_or ms i (pos 0) *ℤ row.constant
-    → sum +ℤ dot (drop i ms) (drop i (constants rows)) ≡ all
-    → (sum +ℤ product) +ℤ dot (drop (i + 1) ms) (drop (i + 1) (constants rows)) ≡ all
-constant_summed ms rows i row sum product all as_many below is made so_far =
-    let at_row : get_or (constants rows) i (pos 0) ≡ row.constant = get_or-map (λ (r : Row). r.constant) rows i row (pos 0) below ∙ ap (λ (r : Row). r.constant) (sym is) in
-    summed ms (constants rows) i sum product all (omega arith) (omega (arith, length-map rows (λ (r : Row). r.constant)))
-    (made ∙ ap (λ z. get_or ms i (pos 0) *ℤ z) (sym at_row)) so_far
-
 -- ---- the signs
 
 pub signs_more : (rows : List Row) (ms : List ℤ) (i : ℕ) (row : Row) → length ms ≡ length rows → i < length rows
@@ -55,6 +45,14 @@ signs_more rows ms i row as_many below is may so_far =
     let next = rw (drop_more rows i row below, drop_more ms i (pos 0) (omega arith)) at so_far in
     (λ signs. (next.0 signs).1, λ others. next.1 (subst (λ (r : Row). MayMultiply r (get_or ms i (pos 0))) is may, others))
 
+-- a multiplier that its row may not have
+pub no_sign : (rows : List Row) (ms : List ℤ) (i : ℕ) (row : Row) → length ms ≡ length rows → i < length rows
+    → row ≡ get_or rows i row → (MayMultiply row (get_or ms i (pos 0)) → ⊥)
+    → AllZip MayMultiply rows ms ↔ AllZip MayMultiply (drop i rows) (drop i ms) → AllZip MayMultiply rows ms → ⊥
+no_sign rows ms i row as_many below is may_not so_far signs =
+    let next = rw (drop_more rows i row below, drop_more ms i (pos 0) (omega arith)) at so_far in
+    may_not (subst (λ (r : Row). MayMultiply r (get_or ms i (pos 0))) (sym is) (next.0 signs).0)
+
 pub signs_all : (rows : List Row) (ms : List ℤ) (i : ℕ) → length ms ≡ length rows → length rows ≤ i
     → AllZip MayMultiply rows ms ↔ AllZip MayMultiply (drop i rows) (drop i ms) → AllZip MayMultiply rows ms
 signs_all rows ms i as_many past so_far =
@@ -63,11 +61,12 @@ signs_all rows ms i as_many past so_far =
 
 -- ---- entries that are added to sums
 
-pub entries_added : (sums before entries : List ℤ) (m : ℤ) (i : ℕ) (v : ℤ) → i < length sums
-    → v ≡ get_or before i (pos 0) +ℤ (m *ℤ get_or entries i (pos 0))
-    → ((k : ℕ) → k < i → get_or sums k (pos 0) ≡ get_or before k (pos 0) +ℤ (m *ℤ get_or entries k (pos 0)))
-    → (k : ℕ) → k < i + 1 → get_or (set sums i v) k (pos 0) ≡ get_or before k (pos 0) +ℤ (m *ℤ get_or entries k (pos 0))
-entries_added sums before entries m i v in_sums is added k below =
+-- the sums before, and of those below a place the products too
+pub entries_added : (sums before : List ℤ) (products : ℕ → ℤ) (i : ℕ) (v : ℤ) → i < length sums
+    → v ≡ get_or before i (pos 0) +ℤ products i
+    → ((k : ℕ) → k < i → get_or sums k (pos 0) ≡ get_or before k (pos 0) +ℤ products k)
+    → (k : ℕ) → k < i + 1 → get_or (set sums i v) k (pos 0) ≡ get_or before k (pos 0) +ℤ products k
+entries_added sums before products i v in_sums is added k below =
     ⊎_elim (λ (h : k < i). get_or-set_other sums i k v (pos 0) (omega arith) ∙ added k h)
     (λ (h : i ≤ k). let at_i : k ≡ i = omega arith in rw at_i (get_or-set_same sums i v (pos 0) in_sums ∙ is)) (cases_lt k i)
 
@@ -83,42 +82,87 @@ zeros_sum n k all = rw (get_or-zeros n k) (omega (arith, ints))
 pub zeros_bound : (n k : ℕ) → unsigned_abs (get_or (replicate n (pos 0)) k (pos 0)) ≤ 0
 zeros_bound n k = rw (get_or-zeros n k) (omega arith)
 
-narrow_row : (rows : List Row) (i : ℕ) (row : Row) → i < length rows → row ≡ get_or rows i row → All IsNarrowRow rows → IsNarrowRow row
-narrow_row rows i row below is narrow = subst IsNarrowRow (sym is) (narrow i row below)
+no_row : Row
+no_row = record { coefs = []; constant = pos 0; equality = false }
 
-pub narrow_block : (rows : List Row) (i first : ℕ) (row : Row) → i < length rows → row ≡ get_or rows i row → All IsNarrowRow rows
-    → All IsNarrow (take 32 (drop first row.coefs))
-narrow_block rows i first row below is narrow =
-    All-take IsNarrow 32 (drop first row.coefs) (All-drop IsNarrow first row.coefs (narrow_row rows i row below is narrow).coefs)
+-- the row at a place
+pub row_at : List Row → ℕ → Row
+row_at rows i = get_or rows i no_row
 
-narrow_entry : (entries : List ℤ) (k : ℕ) → All IsNarrow entries → IsNarrow (get_or entries k (pos 0))
-narrow_entry entries k narrow = get_or_all IsNarrow entries k (pos 0) (lit< tt) (recursion_from_All IsNarrow entries narrow)
+get_or_any : {X : Type 0} (xs : List X) (i : ℕ) (d e : X) → i < length xs → get_or xs i d ≡ get_or xs i e
+get_or_any [] i d e below = absurd (omega arith)
+get_or_any (x ∷ xs) zero d e below = refl
+get_or_any (x ∷ xs) (suc i) d e below = get_or_any xs i d e (omega arith)
 
-pub block_bound : (i k : ℕ) (m old new : ℤ) (entries : List ℤ) → IsNarrow m → All IsNarrow entries
-    → new ≡ old +ℤ (m *ℤ get_or entries k (pos 0)) → unsigned_abs old ≤ i * 2 ^ 112 → unsigned_abs new ≤ (i + 1) * 2 ^ 112
-block_bound i k m old new entries narrow_m narrow is bound =
-    rw is (grown i old (m *ℤ get_or entries k (pos 0)) bound (unsigned_abs-product m (get_or entries k (pos 0)) narrow_m (narrow_entry entries k narrow)))
+pub row_at-is : (rows : List Row) (i : ℕ) → i < length rows → row_at rows i ≡ get_or rows i (row_at rows i)
+unfolding row_at
+row_at-is rows i below = get_or_any rows i no_row (get_or rows i no_row) below
 
--- a block as the code takes it
-pub block_of : (first : ℕ) (coefs : List ℤ)
-    → (let left : List ℤ = take (length coefs - min first (length coefs)) (drop (min first (length coefs)) coefs) in take (min 32 (length left)) left ≡ take 32 (drop first coefs))
-block_of first coefs = rw (take_rest coefs (min first (length coefs)), drop_min first coefs) (take_min 32 (drop first coefs))
+pub told_at : {X : Type 0} (g : Row → X) (rows : List Row) (i : ℕ) (e : X) → i < length rows → get_or (map g rows) i e ≡ g (row_at rows i)
+unfolding row_at
+told_at g rows i e below = get_or-map g rows i no_row e below
 
-entry_at : (coefs : List ℤ) (first k : ℕ) → k < 32 → get_or (take 32 (drop first coefs)) k (pos 0) ≡ get_or coefs (first + k) (pos 0)
-entry_at coefs first k below = get_or-take 32 (drop first coefs) k (pos 0) below ∙ get_or-drop first coefs k (pos 0)
+row_fits : (rows : List Row) (i : ℕ) → i < length rows → All IsFittingRow rows → IsFittingRow (row_at rows i)
+unfolding row_at
+row_fits rows i below fit = fit i no_row below
 
-pub block_summed : (ms : List ℤ) (rows : List Row) (i first k : ℕ) (row : Row) (old new all : ℤ) → length ms ≡ length rows
-    → i < length rows → row ≡ get_or rows i row → k < 32
-    → new ≡ old +ℤ (get_or ms i (pos 0) *ℤ get_or (take 32 (drop first row.coefs)) k (pos 0))
-    → old +ℤ dot (drop i ms) (drop i (column (first + k) rows)) ≡ all
-    → new +ℤ dot (drop (i + 1) ms) (drop (i + 1) (column (first + k) rows)) ≡ all
-block_summed ms rows i first k row old new all as_many below is in_block made so_far =
-    let j : ℕ = first + k in
-    let at_row : get_or (column j rows) i (pos 0) ≡ get_or row.coefs j (pos 0) = get_or-map (λ (r : Row). get_or r.coefs j (pos 0)) rows i row (pos 0) below ∙ ap (λ (r : Row). get_or r.coefs j (pos 0)) (sym is) in
-    let m : ℤ = get_or ms i (pos 0) in
-    let product : ℤ = m *ℤ get_or (take 32 (drop first row.coefs)) k (pos 0) in
-    rw made (summed ms (column j rows) i old product all (omega arith) (omega (arith, length-map rows (λ (r : Row). get_or r.coefs j (pos 0))))
-    (ap (λ z. m *ℤ z) (entry_at row.coefs first k in_block ∙ sym at_row)) so_far)
+entry_fits : (entries : List ℤ) (k : ℕ) → All FitsRow entries → FitsRow (get_or entries k (pos 0))
+entry_fits entries k fit =
+    ⊎_elim (λ (h : k < length entries). All-get_or FitsRow entries k (pos 0) h fit)
+    (λ (h : length entries ≤ k). let zero : FitsRow (pos 0) = lit< tt in subst FitsRow (sym (get_or_past entries k (pos 0) h)) zero)
+    (cases_lt k (length entries))
+
+-- an entry of rows that fit does
+pub column_fits : (rows : List Row) (i j : ℕ) → i < length rows → All IsFittingRow rows → FitsRow (get_or (column j rows) i (pos 0))
+column_fits rows i j below fit =
+    subst FitsRow (sym (told_at (λ row. get_or row.coefs j (pos 0)) rows i (pos 0) below))
+    (entry_fits (row_at rows i).coefs j (row_fits rows i below fit).coefs)
+
+pub constant_fits : (rows : List Row) (i : ℕ) → i < length rows → All IsFittingRow rows → FitsRow (get_or (constants rows) i (pos 0))
+constant_fits rows i below fit =
+    subst FitsRow (sym (told_at (λ row. row.constant) rows i (pos 0) below)) (row_fits rows i below fit).constant
+
+-- past the rows' length an entry is 0
+pub column_past : (rows : List Row) (i j : ℕ) → i < length rows → HaveOneLength rows → columns_of rows ≤ j → get_or (column j rows) i (pos 0) ≡ pos 0
+unfolding row_at
+column_past rows i j below one_length past =
+    let long : length (row_at rows i).coefs ≡ columns_of rows = one_length i no_row below in
+    told_at (λ row. get_or row.coefs j (pos 0)) rows i (pos 0) below ∙ get_or_past (row_at rows i).coefs j (pos 0) (omega arith)
+
+pub may_at : (rows : List Row) (i : ℕ) (m : ℤ) (equality : Bool) → i < length rows → equality ≡ get_or (equalities rows) i false
+    → OnFalse equality (pos 0 ≤ℤ m) ↔ MayMultiply (row_at rows i) m
+may_at rows i m equality below is =
+    let e = is ∙ told_at (λ row. row.equality) rows i false below in
+    (λ may. subst (λ b. OnFalse b (pos 0 ≤ℤ m)) e may, λ may. subst (λ b. OnFalse b (pos 0 ≤ℤ m)) (sym e) may)
+
+pub block_bound : (i j : ℕ) (m old new : ℤ) (rows : List Row) → FitsRow m → i < length rows → All IsFittingRow rows
+    → new ≡ old +ℤ (m *ℤ get_or (column j rows) i (pos 0)) → unsigned_abs old ≤ i * 2 ^ 112 → unsigned_abs new ≤ (i + 1) * 2 ^ 112
+block_bound i j m old new rows m_fits below fit is bound =
+    rw is (grown i old (m *ℤ get_or (column j rows) i (pos 0)) bound
+    (unsigned_abs-product m (get_or (column j rows) i (pos 0)) m_fits (column_fits rows i j below fit)))
+
+pub block_summed : (ms : List ℤ) (rows : List Row) (i j : ℕ) (old new all : ℤ) → length ms ≡ length rows → i < length rows
+    → new ≡ old +ℤ (get_or ms i (pos 0) *ℤ get_or (column j rows) i (pos 0))
+    → old +ℤ dot (drop i ms) (drop i (column j rows)) ≡ all
+    → new +ℤ dot (drop (i + 1) ms) (drop (i + 1) (column j rows)) ≡ all
+block_summed ms rows i j old new all as_many below made so_far =
+    rw made (summed ms (column j rows) i old (get_or ms i (pos 0) *ℤ get_or (column j rows) i (pos 0)) all (omega arith) refl so_far)
+
+added_zero : (x m z : ℤ) → z ≡ pos 0 → x ≡ x +ℤ (m *ℤ z)
+added_zero x m z e = rw e (omega (arith, ints))
+
+-- where all columns of the block are added
+pub row_added : (rows : List Row) (i first width : ℕ) (m : ℤ) (sums before : List ℤ) → i < length rows → HaveOneLength rows
+    → width ≡ min 32 (columns_of rows - first)
+    → ((k : ℕ) → k < width → get_or sums k (pos 0) ≡ get_or before k (pos 0) +ℤ (m *ℤ get_or (column (first + k) rows) i (pos 0)))
+    → ((k : ℕ) → width ≤ k → get_or sums k (pos 0) ≡ get_or before k (pos 0))
+    → (k : ℕ) → k < 32 → get_or sums k (pos 0) ≡ get_or before k (pos 0) +ℤ (m *ℤ get_or (column (first + k) rows) i (pos 0))
+row_added rows i first width m sums before below one_length is added left k in_block =
+    ⊎_elim (λ (h : k < width). added k h)
+    (λ (h : width ≤ k).
+    let past : columns_of rows ≤ first + k = omega arith in
+    left k h ∙ added_zero (get_or before k (pos 0)) m (get_or (column (first + k) rows) i (pos 0)) (column_past rows i (first + k) below one_length past))
+    (cases_lt k width)
 
 -- ---- all columns
 

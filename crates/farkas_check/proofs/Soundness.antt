@@ -8,9 +8,8 @@ use Rattle.std.proofs.lemmas.List.Elements.{recursion_from_All, All-weaker}
 use Rattle.lin_terms.specs.declared.row.Row.{Row}
 use Rattle.lin_terms.specs.Vectors.{dot, plus, scaled}
 use Rattle.lin_terms.specs.Row.{Allows, Holds, Meets, HasNoPoint, HasNoIntegerPoint}
-use Rattle.lin_terms.proofs.Ring.{as_dif, same_dif, difs}
-use Rattle.lin_terms.proofs.Signs.{nonneg_add, nonneg_mul}
-use Rattle.lin_terms.proofs.Dots.{dot-plus, dot-scaled, get_or-plus, get_or-scaled, dot-zeros}
+use Rattle.farkas_check.proofs.Ring.{as_dif, same_dif, difs}
+use Rattle.lin_terms.proofs.Laws.{nonneg_add, nonneg_mul, dot-plus, dot-scaled, get_or-plus, get_or-scaled, dot-zeros, whole_is_fraction}
 use Rattle.farkas_check.specs.Refutes.{column, constants, MayMultiply, Refutes}
 
 -- the coefficients of the rows times their multipliers, added up row by row
@@ -49,7 +48,9 @@ total-is (m ∷ ms) [] numbers d = omega (arith, ints)
 total-is (m ∷ ms) (row ∷ rows) numbers d =
     ap (λ t. (m *ℤ value numbers d row) +ℤ t) (total-is ms rows numbers d)
     ∙ total_step m (dot row.coefs numbers) row.constant d (dot (combination ms rows) numbers) (dot ms (constants rows))
-    ∙ ap (λ t. t +ℤ (((m *ℤ row.constant) +ℤ dot ms (constants rows)) *ℤ d)) (ap (λ t. t +ℤ dot (combination ms rows) numbers) (sym (dot-scaled m row.coefs numbers)) ∙ sym (dot-plus (scaled m row.coefs) (combination ms rows) numbers))
+    ∙ ap (λ t. t +ℤ (((m *ℤ row.constant) +ℤ dot ms (constants rows)) *ℤ d))
+    (ap (λ t. t +ℤ dot (combination ms rows) numbers) (sym (dot-scaled m row.coefs numbers))
+    ∙ sym (dot-plus (scaled m row.coefs) (combination ms rows) numbers))
 
 -- a row that holds, times a multiplier that it may have
 nonneg_product : (equality : Bool) (m v : ℤ) → OnFalse equality (pos 0 ≤ℤ m) → Allows equality v → pos 0 ≤ℤ (m *ℤ v)
@@ -78,13 +79,7 @@ no_point rows ms refuted numbers d positive met =
     clash (dot ms (constants rows)) d refuted.negative_constant positive
     (subst (λ z. pos 0 ≤ℤ z) e (nonneg_total ms rows numbers d refuted.signs (recursion_from_All (Meets numbers d) rows met)))
 
-over_one : (c : ℤ) → c *ℤ pos 1 ≡ c
-over_one c = omega (arith, ints)
-
--- whole numbers are fractions with the denominator 1
-meets-whole : (values : List ℤ) (row : Row) → Holds values row → Meets values (pos 1) row
-meets-whole values row holds = subst (λ c. Allows row.equality (dot row.coefs values +ℤ c)) (sym (over_one row.constant)) holds
-
 pub no_integer_point : (rows : List Row) (ms : List ℤ) → Refutes rows ms → HasNoIntegerPoint rows
 no_integer_point rows ms refuted values holds =
-    no_point rows ms refuted values (pos 1) (omega (arith, ints)) (All-weaker (Holds values) (Meets values (pos 1)) (λ row. meets-whole values row) rows holds)
+    no_point rows ms refuted values (pos 1) (omega (arith, ints))
+    (All-weaker (Holds values) (Meets values (pos 1)) (λ row. (whole_is_fraction values row).0) rows holds)

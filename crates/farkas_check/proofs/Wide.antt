@@ -4,11 +4,11 @@ use Rattle.std.specs.Int.{w128}
 use Rattle.std.specs.Prelude.{ℤ, ◌+ℤ◌, ◌*ℤ◌, unsigned_abs}
 use Rattle.std.proofs.lemmas.Int.{ints, to_z-of_z, unsigned_abs-mul, fits_signed_from_abs}
 use Rattle.std.proofs.lemmas.Nat.{mul-lt}
-use Rattle.lin_terms.specs.Row.{IsNarrow}
+use Rattle.lin_terms.specs.Bounds.{FitsRow}
 
-pub unsigned_abs-product : (x y : ℤ) → IsNarrow x → IsNarrow y → unsigned_abs (x *ℤ y) < 2 ^ 112
-unsigned_abs-product x y narrow_x narrow_y =
-    rw (unsigned_abs-mul x y) (mul-lt (unsigned_abs x) (unsigned_abs y) (2 ^ 56) (2 ^ 56) narrow_x narrow_y)
+pub unsigned_abs-product : (x y : ℤ) → FitsRow x → FitsRow y → unsigned_abs (x *ℤ y) < 2 ^ 112
+unsigned_abs-product x y x_fits y_fits =
+    rw (unsigned_abs-mul x y) (mul-lt (unsigned_abs x) (unsigned_abs y) (2 ^ 56) (2 ^ 56) x_fits y_fits)
 
 pub unsigned_abs-sum : (x y : ℤ) → unsigned_abs (x +ℤ y) ≤ unsigned_abs x + unsigned_abs y
 unsigned_abs-sum x y = omega (arith, ints)
@@ -17,11 +17,11 @@ unsigned_abs-sum x y = omega (arith, ints)
 back : (x : ℤ) → unsigned_abs x < 2 ^ 127 → to_z w128 (of_z w128 x) ≡ x
 back x small = to_z-of_z w128 x (fits_signed_from_abs w128 x small)
 
--- the product of narrow numbers, as the code computes it
-pub product_back : (x y z : ℤ) → IsNarrow x → IsNarrow y → z ≡ y
+-- the product of numbers that fit, as the code computes it
+pub product_back : (x y z : ℤ) → FitsRow x → FitsRow y → z ≡ y
     → to_z w128 (of_z w128 (to_z w128 (of_z w128 x) *ℤ to_z w128 (of_z w128 z))) ≡ x *ℤ y
-product_back x y z narrow_x narrow_y is =
-    rw (is, back x (omega arith), back y (omega arith)) (back (x *ℤ y) (omega (arith, unsigned_abs-product x y narrow_x narrow_y)))
+product_back x y z x_fits y_fits is =
+    rw (is, back x (omega arith), back y (omega arith)) (back (x *ℤ y) (omega (arith, unsigned_abs-product x y x_fits y_fits)))
 
 -- a sum with room for one more product, as the code computes it
 pub sum_back : (x y : ℤ) → unsigned_abs x < 2 ^ 126 → unsigned_abs y < 2 ^ 112 → to_z w128 (of_z w128 (x +ℤ to_z w128 (of_z w128 y))) ≡ x +ℤ y

@@ -1,1 +1,2 @@
 pub mod Refutes
+pub mod Laws

@@ -1,46 +1,44 @@
-//! Entries times multipliers, which are added up in 128 bits: at most 4,096 products, each below 2^112 in size.
+//! Entries times multipliers, which are added up in 128 bits: at most 4,096 products, each below
+//! 2^112 in size.
 //!
 //! The columns are added up in blocks, so that rows of at most `WIDTH` columns are walked once.
-ghost use Rattle.std.specs.Prelude.{◌≡◌, ℕ, ◌<◌, ◌≤◌, ◌^◌, ◌+ℤ◌, ◌*ℤ◌, pos, unsigned_abs, All, length, slice_index_or, take, drop};
-ghost use Rattle.lin_terms.specs.Row.{IsNarrow};
+ghost use Rattle.std.specs.Prelude.{◌≡◌, ℕ, ◌+◌, ◌<◌, ◌^◌, ◌+ℤ◌, ◌*ℤ◌, pos, unsigned_abs, All, length, slice_index_or};
+ghost use Rattle.lin_terms.specs.Bounds.{FitsRow};
+ghost use Rattle.lin_terms.specs.Row.{IsFittingRow, HaveOneLength};
+ghost use Rattle.farkas_check.specs.Refutes.{column};
 
-use lin_terms::Row;
+use crate::told::Rows;
 
 /// How many columns are added up in one walk over the rows.
 pub const WIDTH: usize = 32;
 
 /// A multiplier times an entry of its row.
 pub fn product(multiplier: &i128, entry: &i64) -> i128
-    requires narrow_multiplier { IsNarrow multiplier.now }
-    requires narrow { IsNarrow entry.now }
+    requires multiplier_fits { FitsRow multiplier.now }
+    requires fits { FitsRow entry.now }
     ensures value { result ≡ multiplier.now *ℤ entry.now }
     ensures small { unsigned_abs result < 2 ^ 112 }
 {
     *multiplier * i128::from(*entry)
 }
 
-/// Adds the entries, each times the multiplier, to the sums that stand at their places.
-pub fn add_entries(sums: &mut [i128], multiplier: &i128, entries: &[i64])
-    requires lengths { length entries.now ≤ length sums.old }
-    requires narrow_multiplier { IsNarrow multiplier.now }
-    requires narrow { All IsNarrow entries.now }
+/// Adds the entries of row `i` in the columns from `first` on, each times the multiplier, to the
+/// sums of these columns.
+pub fn add_row<R: Rows>(rows: &R, i: usize, first: usize, multiplier: &i128, sums: &mut [i128])
+    requires inside { i < length (R.list rows.now) }
+    requires one_length { HaveOneLength (R.list rows.now) }
+    requires rows_fit { All IsFittingRow (R.list rows.now) }
+    requires multiplier_fits { FitsRow multiplier.now }
+    requires width { length sums.old ≡ 32 }
     requires room { All (λ sum. unsigned_abs sum < 2 ^ 126) sums.old }
-    ensures { (k : ℕ) → slice_index_or sums.new k (pos 0)
-        ≡ slice_index_or sums.old k (pos 0) +ℤ (multiplier.now *ℤ slice_index_or entries.now k (pos 0)) }
+    ensures { (k : ℕ) → k < 32 → slice_index_or sums.new k (pos 0)
+        ≡ slice_index_or sums.old k (pos 0)
+        +ℤ (multiplier.now *ℤ slice_index_or (column (first + k) (R.list rows.now)) i (pos 0)) }
 {
     if *multiplier == 0 {
         return;
     }
-    for (k, entry) in entries.iter().enumerate() {
-        sums[k] += product(multiplier, entry);
+    for k in 0..WIDTH.min(rows.columns().saturating_sub(first)) {
+        sums[k] += product(multiplier, &rows.entry(i, first + k));
     }
-}
-
-/// The row's coefficients in the columns `first`, `first + 1` and so on, at most `WIDTH` of them.
-pub fn block(row: &Row, first: usize) -> &[i64]
-    ensures { result.now ≡ take WIDTH (drop first row.now.coefs) }
-{
-    let coefs = row.coefs.as_slice();
-    let entries = &coefs[first.min(coefs.len())..];
-    &entries[..WIDTH.min(entries.len())]
 }

@@ -1,10 +1,6 @@
 //! Rows and multipliers that were worked out by hand.
-ghost use Rattle.std.specs.Prelude.{◌↔◌, All, IsTrue};
-ghost use Rattle.lin_terms.specs.Row.{IsNarrow};
-ghost use Rattle.farkas_check.specs.Refutes.{IsCheckable};
-
-use crate::refutes;
-use lin_terms::{Row, are_narrow_rows, have_one_length};
+use crate::{is_checkable, refutes};
+use lin_terms::Row;
 use std::alloc::{AllocError, Global};
 use std::process::Abort;
 use std::test::Fail;
@@ -75,30 +71,12 @@ const SYSTEMS: [(&[Entries], &[i128], bool); 22] = [
     ),
 ];
 
-fn are_narrow(multipliers: &[i128]) -> bool
-    ensures { IsTrue result ↔ All IsNarrow multipliers.now }
-{
-    multipliers
-        .iter()
-        .all(|multiplier| multiplier.unsigned_abs() < 1 << 56)
-}
-
 fn rows_of(alloc: Global, given: &[Entries]) -> Result<Vec<Row>, AllocError> {
     let mut made = Vec::new(alloc);
     for (coefs, constant, equality) in given {
         made.push(Row::new(alloc, coefs, *constant, *equality)?)?;
     }
     Ok(made)
-}
-
-fn is_checkable(rows: &[Row], multipliers: &[i128]) -> bool
-    ensures { IsTrue result ↔ IsCheckable rows.now multipliers.now }
-{
-    rows.len() <= 4096
-        && have_one_length(rows)
-        && multipliers.len() == rows.len()
-        && are_narrow_rows(rows)
-        && are_narrow(multipliers)
 }
 
 /// What `refutes` answers, where it may be asked.
@@ -118,7 +96,8 @@ fn small_rows(rt: HostRuntime) -> Result<(), Fail> {
     Ok(())
 }
 
-/// 4,096 rows that have only their last column, whose entries add up to 0, and the greatest entries and multipliers.
+/// 4,096 rows that have only their last column, whose entries add up to 0, and the greatest entries
+/// and multipliers.
 #[test]
 fn many_rows_and_columns(rt: HostRuntime) -> Result<(), Fail> {
     let alloc = rt.alloc();

@@ -10,7 +10,7 @@ use Rattle.std.proofs.Math.Nat.{dvd-mul_right}
 use Rattle.std.proofs.lemmas.Nat.Gcd.{dvd_refl, dvd-zero, dvd_trans, dvd_antisymm, le_of_dvd, mod-eq-zero_of_dvd, IsGcd-from_zero, IsGcd-from_mod, same_from_IsGcd}
 use Rattle.std.proofs.lemmas.Bool.Decides.{nat_tests}
 use Rattle.std.proofs.lemmas.List.Elements.{All-from_recursion, recursion_from_All}
-use Rattle.lin_terms.specs.Divisor.{gcd_steps, gcd, gcd_with, gcd_of, IsGcdOf, floor_div}
+use Rattle.lin_terms.specs.Divisor.{gcd_steps, gcd, gcd_with, gcd_of, IsGcdOf, DividesAll, floor_div}
 use Rattle.lin_terms.specs.Vectors.{dot, scaled}
 use Rattle.lin_terms.proofs.Ring.{mul-minus}
 use Rattle.lin_terms.proofs.Dots.{dot-scaled}
@@ -50,10 +50,6 @@ gcd_below n a (suc b) a_below b_below =
     let bound : gcd a (suc b) ≤ suc b = le_of_dvd some (gcd_is a (suc b)).1 in omega arith
 
 -- ---- the divisor of a list
-
--- the divisor divides the size of each entry
-abbrev pub DividesAll : ℕ → List ℤ → Type 0
-DividesAll divisor xs = AllByRecursion (λ x. divisor ∣ unsigned_abs x) xs
 
 gcd_with_divides : (g : ℕ) (xs : List ℤ) → (gcd_with g xs ∣ g) × DividesAll (gcd_with g xs) xs
 gcd_with_divides g [] = (dvd_refl g, tt)

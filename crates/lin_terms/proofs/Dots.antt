@@ -1,10 +1,12 @@
 -- Dot products.
-use Rattle.std.proofs.Common.{◌≡◌, ℕ, zero, suc, Bool, true, List, [], ◌∷◌, arith, refl, ◌∙◌, ap, length, get_or, replicate}
+use Rattle.std.proofs.Common.{◌≡◌, ℕ, zero, suc, Bool, true, List, [], ◌∷◌, arith, refl, ◌∙◌, ap, ◌<◌, ◌≤◌, ◌+◌, ◌++◌, drop, ⊎_elim, length, get_or, replicate}
 use Rattle.std.specs.Prelude.{ℤ, pos, ◌+ℤ◌, ◌*ℤ◌}
 use Rattle.std.specs.List.{list_all}
 use Rattle.std.proofs.lemmas.Int.{ints}
-use Rattle.std.proofs.lemmas.Bool.{and_parts}
-use Rattle.lin_terms.specs.Vectors.{dot, plus, scaled}
+use Rattle.std.proofs.lemmas.Bool.{and_parts, cases_lt}
+use Rattle.std.proofs.Math.ListN.{drop_of_length-le}
+use Rattle.std.proofs.lemmas.List.{drop_more, get_or_past}
+use Rattle.lin_terms.specs.Vectors.{dot, plus, scaled, only_at}
 use Rattle.lin_terms.proofs.Ring.{as_dif, same_dif, difs}
 
 add_mul_step : (x y z s t : ℤ) → ((x +ℤ y) *ℤ z) +ℤ (s +ℤ t) ≡ ((x *ℤ z) +ℤ s) +ℤ ((y *ℤ z) +ℤ t)
@@ -68,3 +70,47 @@ dot-zeros (x ∷ xs) (v ∷ values) zeros = rw (zeros 0, dot-zeros xs values (λ
 
 pub dot-replicate : (n : ℕ) (values : List ℤ) → dot (replicate n (pos 0)) values ≡ pos 0
 dot-replicate n values = dot-zeros (replicate n (pos 0)) values (get_or-zeros n)
+
+-- ---- lists that are joined, and one entry alone
+
+regroup : (a b c : ℤ) → a +ℤ (b +ℤ c) ≡ (a +ℤ b) +ℤ c
+regroup a b c = omega (arith, ints)
+
+pub dot-append : (a b x y : List ℤ) → length a ≡ length x → dot (a ++ b) (x ++ y) ≡ dot a x +ℤ dot b y
+dot-append [] b [] y long = omega (arith, ints)
+dot-append [] b (v ∷ x) y long = absurd (omega arith)
+dot-append (c ∷ a) b [] y long = absurd (omega arith)
+dot-append (c ∷ a) b (v ∷ x) y long = ap (λ t. (c *ℤ v) +ℤ t) (dot-append a b x y (omega arith)) ∙ regroup (c *ℤ v) (dot a x) (dot b y)
+
+first_alone : (m s : ℤ) → s ≡ pos 0 → m +ℤ s ≡ m
+first_alone m s e = omega (arith, ints)
+
+times_zero : (z : ℤ) → pos 0 ≡ z *ℤ pos 0
+times_zero z = omega (arith, ints)
+
+pub dot-only_at : (n i : ℕ) (entry : ℤ) (values : List ℤ) → i < n → dot (only_at n i entry) values ≡ entry *ℤ get_or values i (pos 0)
+dot-only_at zero i entry values below = absurd (omega arith)
+dot-only_at (suc n) zero entry [] below = times_zero entry
+dot-only_at (suc n) (suc i) entry [] below = times_zero entry
+dot-only_at (suc n) zero entry (v ∷ values) below = first_alone (entry *ℤ v) (dot (replicate n (pos 0)) values) (dot-replicate n values)
+dot-only_at (suc n) (suc i) entry (v ∷ values) below =
+    let e : (pos 0 *ℤ v) +ℤ dot (only_at n i entry) values ≡ dot (only_at n i entry) values = omega (arith, ints) in
+    e ∙ dot-only_at n i entry values (omega arith)
+
+dot-nil : (xs : List ℤ) → dot xs [] ≡ pos 0
+dot-nil [] = refl
+dot-nil (x ∷ xs) = refl
+
+nothing_left : (x : ℤ) → pos 0 ≡ (x *ℤ pos 0) +ℤ pos 0
+nothing_left x = omega (arith, ints)
+
+-- the products from one place on
+pub dot-drop : (xs ys : List ℤ) (i : ℕ) → i < length xs
+    → dot (drop i xs) (drop i ys) ≡ (get_or xs i (pos 0) *ℤ get_or ys i (pos 0)) +ℤ dot (drop (i + 1) xs) (drop (i + 1) ys)
+dot-drop xs ys i in_xs =
+    ⊎_elim (λ (in_ys : i < length ys). rw (drop_more xs i (pos 0) in_xs, drop_more ys i (pos 0) in_ys) refl)
+    (λ (past : length ys ≤ i).
+    let later : length ys ≤ i + 1 = omega arith in
+    rw (drop_of_length-le ys past, drop_of_length-le ys later, get_or_past ys i (pos 0) past, dot-nil (drop i xs), dot-nil (drop (i + 1) xs))
+    (nothing_left (get_or xs i (pos 0))))
+    (cases_lt i (length ys))

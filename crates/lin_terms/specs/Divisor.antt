@@ -1,6 +1,7 @@
 -- Greatest common divisors, by Euclid's algorithm, and quotients that are rounded down.
 use Rattle.std.specs.Prelude.{ℕ, zero, suc, ◌%◌, ◌==◌, if◌then◌else◌, List, [], ◌∷◌, ℤ, pos, unsigned_abs, All}
 use Rattle.std.specs.Int.{int_div_euclid}
+use Rattle.std.specs.List.{AllByRecursion}
 use Prim.Native.Nat.{◌∣◌}
 
 -- Euclid's algorithm, in at most `steps` steps
@@ -20,6 +21,10 @@ gcd_with g (x ∷ xs) = gcd_with (gcd g (unsigned_abs x)) xs
 -- the greatest common divisor of the entries' sizes: 0 where each entry is 0
 abbrev pub gcd_of : List ℤ → ℕ
 gcd_of xs = gcd_with 0 xs
+
+-- The divisor divides the size of each entry.
+abbrev pub DividesAll : ℕ → List ℤ → Type 0
+DividesAll divisor xs = AllByRecursion (λ x. divisor ∣ unsigned_abs x) xs
 
 -- It divides each entry, and each number that does so divides it.
 pub record IsGcdOf (g : ℕ) (xs : List ℤ) : Type 0 where

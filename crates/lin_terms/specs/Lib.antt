@@ -1,6 +1,11 @@
 pub mod Vectors
+pub mod Bounds
 pub mod Form
-pub mod Narrow
+pub mod Makes
+pub mod Compose
 pub mod Divisor
 pub mod Row
 pub mod Tight
+pub mod Sign
+pub mod Point
+pub mod Laws

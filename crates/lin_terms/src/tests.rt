@@ -1,7 +1,10 @@
 //! Forms and tight rows whose entries were worked out by hand.
+ghost use Rattle.std.specs.Prelude.{◌↔◌, ◌≤◌, length, All, IsTrue};
+
 use crate::{
-    Form, FormFault, Row, add, are_narrow_rows, columns_of, constant_form, gcd, have_one_length,
-    scale, tight, variable_form,
+    Form, FormFault, Point, Row, Sign, add, are_fitting_forms, are_fitting_multipliers,
+    are_fitting_rows, columns_of, compose, constant_form, difference, gcd, have_one_length,
+    never_row, product, scale, tight, tight_row, variable_form,
 };
 use sqlite_items::Items;
 use std::alloc::{AllocError, Global};
@@ -67,6 +70,155 @@ fn sums_and_multiples(rt: HostRuntime) -> Result<(), Fail> {
     Ok(())
 }
 
+/// Two forms, the first less the second, and their product.
+const JOINED: [(&[i64], i64, &[i64], i64, &str, &str); 7] = [
+    (&[1, -2], 3, &[4, 1], -1, "[-3, -3] 4", "NonLinear"),
+    (&[0, 0], 2, &[1, -3], 1, "[-1, 3] 1", "[2, -6] 2"),
+    (&[1, -3], 1, &[0, 0], -2, "[1, -3] 3", "[-2, 6] -2"),
+    (&[0], 5, &[0], 7, "[0] -2", "[0] 35"),
+    (
+        &[1],
+        WIDE - 1,
+        &[0],
+        -1,
+        "WideForm",
+        "[-1] -1125899906842623",
+    ),
+    (&[WIDE - 1], 0, &[0], 2, "[1125899906842623] -2", "WideForm"),
+    (&[i64::MIN], 0, &[i64::MIN], 0, "[0] 0", "NonLinear"),
+];
+
+#[test]
+fn differences_and_products(rt: HostRuntime) -> Result<(), Fail> {
+    let alloc = rt.alloc();
+    for (xs, x, ys, y, less, times) in JOINED {
+        let (first, second) = (form(alloc, xs, x)?, form(alloc, ys, y)?);
+        assert!(rt; first.coefs.len() == second.coefs.len());
+        let got = shown(alloc, difference(alloc, &first, &second))?;
+        assert_eq!(rt; got.as_str(), less, "{xs:?} {x} less {ys:?} {y}");
+        let got = match product(alloc, &first, &second) {
+            Ok(made) => shown(alloc, Ok(made))?,
+            Err(fault) => format!(in alloc; "{fault:?}")?,
+        };
+        assert_eq!(rt; got.as_str(), times, "{xs:?} {x} times {ys:?} {y}");
+    }
+    Ok(())
+}
+
+/// 2^30: its square is wide.
+const HALF: i64 = 1 << 30;
+
+/// A form, the forms of its variables, the number of columns, and the form over them.
+const COMPOSED: [(&[i64], i64, &[(&'static [i64], i64)], usize, &str); 6] = [
+    (&[2, -1], 1, &[(&[1, 0], 1), (&[1, -1], 0)], 2, "[1, 1] 3"),
+    (&[], 4, &[], 3, "[0, 0, 0] 4"),
+    (&[3], 0, &[(&[1], 2)], 2, "[3, 0] 6"),
+    // 2^60 less 2^60 is not wide
+    (
+        &[HALF, -HALF],
+        0,
+        &[(&[HALF], HALF), (&[HALF], HALF)],
+        1,
+        "[0] 0",
+    ),
+    (&[HALF], 0, &[(&[HALF], 0)], 1, "WideForm"),
+    (&[HALF], 0, &[(&[0], HALF)], 1, "WideForm"),
+];
+
+#[test]
+fn forms_over_forms(rt: HostRuntime) -> Result<(), Fail> {
+    let alloc = rt.alloc();
+    for (coefs, constant, given, columns, want) in COMPOSED {
+        let outer = form(alloc, coefs, constant)?;
+        let mut at = Vec::new(alloc);
+        for (coefs, constant) in given {
+            at.push(form(alloc, coefs, *constant)?)?;
+        }
+        let forms = at.as_slice();
+        assert!(rt; outer.coefs.len() <= forms.len() && outer.coefs.len() <= 1024);
+        assert!(rt; are_fitting_forms(forms) && have_at_most(columns, forms));
+        let got = shown(alloc, compose(alloc, columns, &outer, forms))?;
+        assert_eq!(rt; got.as_str(), want, "{coefs:?} {constant}");
+    }
+    Ok(())
+}
+
+fn have_at_most(columns: usize, forms: &[Form]) -> bool
+    ensures { IsTrue result ↔ All (λ form. length form.coefs ≤ columns) forms.now }
+{
+    forms.iter().all(|form| form.coefs.len() <= columns)
+}
+
+/// A form, a sign, and the tight row that says that the form has it.
+const SIGNED: [(&[i64], i64, Sign, &str); 9] = [
+    (&[4, -6], 3, Sign::Negative, "[-2, 3] -2 false"),
+    (&[4, -6], 3, Sign::NotPositive, "[-2, 3] -2 false"),
+    (&[4, -6], 3, Sign::Zero, "[0, 0] -1 false"),
+    (&[4, -6], 2, Sign::Zero, "[2, -3] 1 true"),
+    (&[4, -6], 3, Sign::NotNegative, "[2, -3] 1 false"),
+    (&[4, -6], 3, Sign::Positive, "[2, -3] 1 false"),
+    (&[1], 0, Sign::Positive, "[1] -1 false"),
+    // a form that is wide before it is made tight
+    (&[WIDE], 0, Sign::Zero, "WideForm"),
+    (&[0], 1 - WIDE, Sign::Positive, "WideForm"),
+];
+
+fn row_text(alloc: Global, row: &Row) -> Result<String, AllocError> {
+    let coefs = row.coefs.as_slice();
+    format!(in alloc; "{coefs:?} {} {}", row.constant, row.equality)
+}
+
+#[test]
+fn rows_of_signs(rt: HostRuntime) -> Result<(), Fail> {
+    let alloc = rt.alloc();
+    for (coefs, constant, sign, want) in SIGNED {
+        let got = match tight_row(alloc, &form(alloc, coefs, constant)?, sign) {
+            Ok(row) => row_text(alloc, &row)?,
+            Err(fault) => format!(in alloc; "{fault:?}")?,
+        };
+        assert_eq!(rt; got.as_str(), want, "{coefs:?} {constant} {sign:?}");
+    }
+    Ok(())
+}
+
+/// A row, a point as numbers and their denominator, and whether the row is decided, and holds at the point.
+const JUDGED: [(&[i64], i64, bool, &[i128], i128, Option<bool>, Option<bool>); 9] = [
+    (&[2], -1, true, &[1], 2, None, Some(true)),
+    (&[1], -1, false, &[1], 2, None, Some(false)),
+    (&[1, 1], -1, false, &[1, 0], 1, None, Some(true)),
+    // an equality holds at 0 alone
+    (&[1, 1], -1, true, &[1, 1], 1, None, Some(false)),
+    // past the end of the point stand zeros
+    (&[1, 5], 0, true, &[0], 1, None, Some(true)),
+    (&[0, 0], 3, false, &[], 1, Some(true), Some(true)),
+    (&[0], 3, true, &[4], 1, Some(false), Some(false)),
+    (&[], -1, false, &[], 1, Some(false), Some(false)),
+    (&[0], 0, true, &[1 << 60], 1, Some(true), None),
+];
+
+#[test]
+fn rows_at_points(rt: HostRuntime) -> Result<(), Fail> {
+    let alloc = rt.alloc();
+    for (coefs, constant, equality, numbers, denominator, decided, met) in JUDGED {
+        let row = Row::new(alloc, coefs, constant, equality)?.copy(alloc)?;
+        let numbers = Items::from_slice(alloc, numbers)?;
+        let point = Point {
+            numbers,
+            denominator,
+        };
+        assert_eq!(rt;
+            (row.decided(), point.meets(&row)),
+            (decided, met),
+            "{row:?} {point:?}"
+        );
+    }
+    let never = row_text(alloc, &never_row(alloc, 2)?)?;
+    assert_eq!(rt; never.as_str(), "[0, 0] -1 false");
+    assert!(rt; are_fitting_multipliers(&[0, 1 - (1 << 56), (1 << 56) - 1]));
+    assert!(rt; !are_fitting_multipliers(&[0, -(1 << 56)]));
+    Ok(())
+}
+
 #[test]
 fn constants_and_variables(rt: HostRuntime) -> Result<(), Fail> {
     let alloc = rt.alloc();
@@ -118,8 +270,7 @@ fn tight_rows(rt: HostRuntime) -> Result<(), Fail> {
     for (xs, constant, equality, want) in TIGHT {
         let row = Row::new(alloc, xs, constant, equality)?;
         let made = tight(alloc, &row)?;
-        let coefs = made.coefs.as_slice();
-        let got = format!(in alloc; "{coefs:?} {} {}", made.constant, made.equality)?;
+        let got = row_text(alloc, &made)?;
         assert_eq!(rt; got.as_str(), want, "{xs:?} {constant} {equality}");
     }
     Ok(())
@@ -146,8 +297,8 @@ fn divisors(rt: HostRuntime) -> Result<(), Fail> {
 /// 2^56, the least entry that is wide in a row.
 const WIDE_IN_ROWS: i64 = 1 << 56;
 
-/// Coefficients and constant of each row, how many columns there are, whether the rows have one length, and whether they
-/// are narrow.
+/// Coefficients and constant of each row, how many columns there are, whether the rows have one
+/// length, and whether they fit.
 const SHAPES: [(&[(&'static [i64], i64)], usize, bool, bool); 7] = [
     (&[], 0, true, true),
     (&[(&[], 1)], 0, true, true),
@@ -166,7 +317,7 @@ const SHAPES: [(&[(&'static [i64], i64)], usize, bool, bool); 7] = [
 #[test]
 fn shapes_of_rows(rt: HostRuntime) -> Result<(), Fail> {
     let alloc = rt.alloc();
-    for (given, columns, one_length, narrow) in SHAPES {
+    for (given, columns, one_length, fit) in SHAPES {
         let mut made = Vec::new(alloc);
         for (coefs, constant) in given {
             made.push(Row::new(alloc, coefs, *constant, false)?)?;
@@ -175,9 +326,9 @@ fn shapes_of_rows(rt: HostRuntime) -> Result<(), Fail> {
         let got = (
             columns_of(rows),
             have_one_length(rows),
-            are_narrow_rows(rows),
+            are_fitting_rows(rows),
         );
-        assert_eq!(rt; got, (columns, one_length, narrow), "{rows:?}");
+        assert_eq!(rt; got, (columns, one_length, fit), "{rows:?}");
     }
     Ok(())
 }

@@ -5,10 +5,10 @@ use Rattle.farkas_check.proofs.sums.product.Goals as goal
 pub returns-clause-value : goal.returns-clause-value
 returns-clause-value c =
     let fits : FitsSigned w64 c.args.entry.now = search rules in
-    product_back c.args.multiplier.now c.args.entry.now c.from.result c.requires.narrow_multiplier c.requires.narrow (simp to_z-of_z at c.from.ensures)
+    product_back c.args.multiplier.now c.args.entry.now c.from.result c.requires.multiplier_fits c.requires.fits (simp to_z-of_z at c.from.ensures)
 
 pub returns-clause-small : goal.returns-clause-small
 returns-clause-small c =
     let fits : FitsSigned w64 c.args.entry.now = search rules in
-    rw (product_back c.args.multiplier.now c.args.entry.now c.from.result c.requires.narrow_multiplier c.requires.narrow (simp to_z-of_z at c.from.ensures))
-    (unsigned_abs-product c.args.multiplier.now c.args.entry.now c.requires.narrow_multiplier c.requires.narrow)
+    rw (product_back c.args.multiplier.now c.args.entry.now c.from.result c.requires.multiplier_fits c.requires.fits (simp to_z-of_z at c.from.ensures))
+    (unsigned_abs-product c.args.multiplier.now c.args.entry.now c.requires.multiplier_fits c.requires.fits)

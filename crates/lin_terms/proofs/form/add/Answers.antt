@@ -1,17 +1,23 @@
-use Rattle.std.proofs.Common.{rules, FitsSigned, w64, to_z-of_z, ◌∙◌, ap, length}
-use Rattle.lin_terms.proofs.Dots.{length-plus}
-use Rattle.lin_terms.proofs.FormLemmas.{value_at-made_sum}
+use Rattle.std.proofs.Common.{◌≡◌, ℤ, ◌+ℤ◌, ◌*ℤ◌, pos, List, subst, ◌∙◌, arith}
+use Rattle.std.proofs.lemmas.Int.{ints}
+use Rattle.std.proofs.lemmas.Result.{IfOk-weaker}
+use Rattle.lin_terms.specs.declared.form.Form.{Form}
+use Rattle.lin_terms.specs.Form.{value_at, sum_of}
+use Rattle.lin_terms.specs.Makes.{fitting, Makes}
+use Rattle.lin_terms.proofs.FormLemmas.{multiple_of-one}
 use Rattle.lin_terms.proofs.form.add.Goals as goal
+
+pub returns-clause-made : goal.returns-clause-made
+returns-clause-made c =
+    subst (λ (y : Form). Makes c.combined.result (fitting (sum_of c.args.x.now y))) (multiple_of-one c.args.y.now) c.combined.ensures.made
+
+once : (x y : ℤ) → x +ℤ (pos 1 *ℤ y) ≡ x +ℤ y
+once x y = omega (arith, ints)
 
 pub returns-clause-value : goal.returns-clause-value
 returns-clause-value c =
-    let made-fits : FitsSigned w64 c.narrow_sum-constant.result = search rules in
-    let x-fits : FitsSigned w64 c.args.x.now.constant = search rules in
-    let y-fits : FitsSigned w64 c.args.y.now.constant = search rules in
-    let coefs = rw (c.as_slice-xs.ensures, c.as_slice-ys.ensures) at (c.from_vec-coefs.ensures ∙ c.in_ok-sums.ensures) in
-    simp to_z-of_z (value_at-made_sum _ c.args.x.now c.args.y.now coefs (simp to_z-of_z at c.narrow_sum-constant.ensures))
-
-pub returns-clause-columns : goal.returns-clause-columns
-returns-clause-columns c =
-    let coefs = rw (c.as_slice-xs.ensures, c.as_slice-ys.ensures) at (c.from_vec-coefs.ensures ∙ c.in_ok-sums.ensures) in
-    ap length coefs ∙ length-plus c.args.x.now.coefs c.args.y.now.coefs c.requires
+    let x : Form = c.args.x.now in
+    let y : Form = c.args.y.now in
+    IfOk-weaker c.combined.result (λ (form : Form). (values : List ℤ) → value_at form values ≡ value_at x values +ℤ (pos 1 *ℤ value_at y values))
+    (λ (form : Form). (values : List ℤ) → value_at form values ≡ value_at x values +ℤ value_at y values)
+    (λ form said values. said values ∙ once (value_at x values) (value_at y values)) c.combined.ensures.value
