@@ -10,13 +10,16 @@ use Rattle.flow_graph.specs.Operation.{operation_of}
 use Rattle.flow_graph.specs.Layout.{Slots, slots_of}
 use Rattle.flow_graph.proofs.Laid.{table_of}
 
-pub closed_some : (slots : List (Option Op)) (slot : Option Op) (ops : List Op) (op : Op) → ops ≡ filter_map (λ s. s) slots → slot ≡ Some op → ops ++ op ∷ [] ≡ filter_map (λ s. s) (slots ++ slot ∷ [])
+pub closed_some : (slots : List (Option Op)) (slot : Option Op) (ops : List Op) (op : Op) → ops ≡ filter_map (λ s. s) slots → slot ≡ Some op → ops ++ op ∷ []
+    ≡ filter_map (λ s. s) (slots ++ slot ∷ [])
 closed_some slots slot ops op is full = rw full (ap (λ (z : List Op). z ++ op ∷ []) is ∙ sym (filter_map-append (λ s. s) slots (Some op ∷ [])))
 
-closed_none : (slots : List (Option Op)) (slot : Option Op) (ops : List Op) → ops ≡ filter_map (λ s. s) slots → slot ≡ None → ops ≡ filter_map (λ s. s) (slots ++ slot ∷ [])
+closed_none : (slots : List (Option Op)) (slot : Option Op) (ops : List Op) → ops ≡ filter_map (λ s. s) slots → slot ≡ None → ops
+    ≡ filter_map (λ s. s) (slots ++ slot ∷ [])
 closed_none slots slot ops is empty = rw empty (is ∙ sym (append-nil (filter_map (λ s. s) slots)) ∙ sym (filter_map-append (λ s. s) slots (None ∷ [])))
 
-pub closed_other : (slots : List (Option Op)) (slot : Option Op) (ops : List Op) → ops ≡ filter_map (λ s. s) slots → ((op : Op) → slot ≡ Some op → ⊥) → ops ≡ filter_map (λ s. s) (slots ++ slot ∷ [])
+pub closed_other : (slots : List (Option Op)) (slot : Option Op) (ops : List Op) → ops ≡ filter_map (λ s. s) slots → ((op : Op) → slot ≡ Some op → ⊥) → ops
+    ≡ filter_map (λ s. s) (slots ++ slot ∷ [])
 closed_other slots None ops is empty = closed_none slots None ops is refl
 closed_other slots (Some op) ops is empty = absurd (empty op refl)
 
@@ -25,7 +28,8 @@ opens [] = 0
 opens (op ∷ slots) = one_if (is_none op) + opens slots
 
 -- where none is open, the operations are those of the slots
-pub closed_table : (slots : List (Option Op)) (i : ℕ) → opens (slots_of slots) ≡ 0 → table_of (slots_of slots) i ≡ option_map operation_of (slice_get (filter_map (λ s. s) slots) i)
+pub closed_table : (slots : List (Option Op)) (i : ℕ) → opens (slots_of slots) ≡ 0 → table_of (slots_of slots) i
+    ≡ option_map operation_of (slice_get (filter_map (λ s. s) slots) i)
 closed_table [] i none = refl
 closed_table (None ∷ slots) i none = absurd (omega arith)
 closed_table (Some op ∷ slots) zero none = refl

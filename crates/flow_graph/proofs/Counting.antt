@@ -43,7 +43,8 @@ added_counts k slots op = record {
 
 -- the open slot behind the old ones is filled
 filled_counts : (k : ℕ) (mark : Option ℕ) (old more slots : Slots) (e : tree.Expression) (body out : ℕ) → slots ≡ old ++ None ∷ more
-    → (slot_marks k (filled mark slots (length old) (Branch e body out)) ≡ slot_marks k slots + one_if (is_mark mark k)) × (suc (opens (filled mark slots (length old) (Branch e body out))) ≡ opens slots)
+    → (slot_marks k (filled mark slots (length old) (Branch e body out)) ≡ slot_marks k slots + one_if (is_mark mark k))
+    × (suc (opens (filled mark slots (length old) (Branch e body out))) ≡ opens slots)
 filled_counts k None old more slots e body out is =
     let test = Branch e body out in
     let new = set_open old more slots (Some test) is in (

@@ -72,7 +72,8 @@ lay_grows (Loop mark e a b test_first c) slots next out again =
     let tail = lay b head.slots head.node out again in
     let inner = lay a tail.slots tail.node behind.node tail.node in
     let all = grows_trans head.slots _ _ (lay_grows b head.slots head.node out again) (lay_grows a tail.slots tail.node behind.node tail.node) in
-    grows_trans slots _ _ (lay_grows c slots next out again) (filled_grows mark behind.slots all.more inner.slots (operation.Branch e inner.node behind.node) (behind_open behind.slots inner.slots all))
+    grows_trans slots _ _ (lay_grows c slots next out again)
+    (filled_grows mark behind.slots all.more inner.slots (operation.Branch e inner.node behind.node) (behind_open behind.slots inner.slots all))
 lay_grows (Break c) slots next out again = lay_grows c slots next out again
 lay_grows (Continue c) slots next out again = lay_grows c slots next out again
 lay_grows (Return e c) slots next out again = grows_trans slots _ _ (lay_grows c slots next out again) (grows_one (lay c slots next out again).slots _)
@@ -86,7 +87,8 @@ grows_length old new g = omega (arith, ap length g.is, length-append old g.more)
 
 -- ---- the same, from what the code knows
 
-pub fill_none : (mark : Option ℕ) (slots : List (Option Op)) (head : ℕ) (test : Op) → mark ≡ None → slots_of (slice_set slots head (Some test)) ≡ filled mark (slots_of slots) head (operation_of test)
+pub fill_none : (mark : Option ℕ) (slots : List (Option Op)) (head : ℕ) (test : Op) → mark ≡ None → slots_of (slice_set slots head (Some test))
+    ≡ filled mark (slots_of slots) head (operation_of test)
 fill_none mark slots head test is = rw is (slots_of-set slots head test)
 
 pub fill_some : (mark : Option ℕ) (own : ℕ) (slots more : List (Option Op)) (head next : ℕ) (test : Op) → mark ≡ Some own

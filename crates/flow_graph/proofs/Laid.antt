@@ -24,7 +24,8 @@ Laid at (tree.Set x e c) n m b t = (i : ℕ) × (at n ≡ Some (Set x e i)) × L
 Laid at (tree.If e x y c) n m b t =
     (i : ℕ) × (j : ℕ) × (q : ℕ) × (at n ≡ Some (Branch e i j)) × Laid at x i q b t × Laid at y j q b t × Laid at c q m b t
 Laid at (tree.Loop k e x y f c) n m b t =
-    (head : ℕ) × (body : ℕ) × (tail : ℕ) × (q : ℕ) × TestLaid at k e head body q × Laid at x body tail q tail × Laid at y tail head b t × (n ≡ cond f head body) × Laid at c q m b t
+    (head : ℕ) × (body : ℕ) × (tail : ℕ) × (q : ℕ) × TestLaid at k e head body q × Laid at x body tail q tail × Laid at y tail head b t
+    × (n ≡ cond f head body) × Laid at c q m b t
 Laid at (tree.Break c) n m b t = (n ≡ b) × (i : ℕ) × Laid at c i m b t
 Laid at (tree.Continue c) n m b t = (n ≡ t) × (i : ℕ) × Laid at c i m b t
 Laid at (tree.Return e c) n m b t = (at n ≡ Some (Return e)) × (i : ℕ) × Laid at c i m b t
@@ -59,7 +60,8 @@ pub record Extends (at more : Table) : Type 0 where
 pub extends_trans : (a b c : Table) → Extends a b → Extends b c → Extends a c
 extends_trans a b c x y = record { by = λ i op h. y.by i op (x.by i op h) }
 
-test_more : (at more : Table) → Extends at more → (k : Option ℕ) (e : Expression) (head body out : ℕ) → TestLaid at k e head body out → TestLaid more k e head body out
+test_more : (at more : Table) → Extends at more → (k : Option ℕ) (e : Expression) (head body out : ℕ) → TestLaid at k e head body out
+    → TestLaid more k e head body out
 test_more at more x None e head body out h = x.by _ _ h
 test_more at more x (Some k) e head body out h = (h.0, x.by _ _ h.1, x.by _ _ h.2)
 
@@ -95,7 +97,8 @@ pub table_at : (xs ys : Slots) (op : Option Operation) → table_of (xs ++ op �
 table_at [] ys op = refl
 table_at (x ∷ xs) ys op = table_at xs ys op
 
-extends_fill : (xs ys : Slots) (op' : Option Operation) (i : ℕ) (op : Operation) → table_of (xs ++ None ∷ ys) i ≡ Some op → table_of (xs ++ op' ∷ ys) i ≡ Some op
+extends_fill : (xs ys : Slots) (op' : Option Operation) (i : ℕ) (op : Operation) → table_of (xs ++ None ∷ ys) i ≡ Some op → table_of (xs ++ op' ∷ ys) i
+    ≡ Some op
 extends_fill [] ys op' zero op h = cc
 extends_fill [] ys op' (suc i) op h = h
 extends_fill (x ∷ xs) ys op' zero op h = h
@@ -108,27 +111,31 @@ module _ (old more slots : Slots) (first : Operation) (is : slots ≡ old ++ Non
 
   pub set_extends : Extends (table_of slots) (table_of (slice_set slots (length old) (Some first)))
   set_extends = record {
-    by = λ i op h. subst (λ (z : Slots). table_of z i ≡ Some op) (sym set_is) (extends_fill old more (Some first) i op (subst (λ (z : Slots). table_of z i ≡ Some op) is h));
+    by = λ i op h. subst (λ (z : Slots). table_of z i ≡ Some op) (sym set_is)
+        (extends_fill old more (Some first) i op (subst (λ (z : Slots). table_of z i ≡ Some op) is h));
   }
 
   pub set_at : table_of (slice_set slots (length old) (Some first)) (length old) ≡ Some first
   set_at = ap (λ (z : Slots). table_of z (length old)) set_is ∙ table_at old more (Some first)
 
-pub filled_extends : (mark : Option ℕ) (old more slots : Slots) (test : Operation) → slots ≡ old ++ None ∷ more → Extends (table_of slots) (table_of (filled mark slots (length old) test))
+pub filled_extends : (mark : Option ℕ) (old more slots : Slots) (test : Operation) → slots ≡ old ++ None ∷ more
+    → Extends (table_of slots) (table_of (filled mark slots (length old) test))
 filled_extends None old more slots test is = set_extends old more slots test is
 filled_extends (Some mark) old more slots test is =
     extends_trans (table_of slots) (table_of (slots ++ Some test ∷ [])) _ (grows_extends slots (slots ++ Some test ∷ []) (grows_one slots (Some test)))
     (set_extends old (more ++ Some test ∷ []) (slots ++ Some test ∷ []) (Mark mark (length slots)) (open_more old more slots (Some test) is))
 
 -- the test of a loop in its slots
-test_laid : (mark : Option ℕ) (old more slots : Slots) (e : Expression) (body out : ℕ) → slots ≡ old ++ None ∷ more → TestLaid (table_of (filled mark slots (length old) (Branch e body out))) mark e (length old) body out
+test_laid : (mark : Option ℕ) (old more slots : Slots) (e : Expression) (body out : ℕ) → slots ≡ old ++ None ∷ more
+    → TestLaid (table_of (filled mark slots (length old) (Branch e body out))) mark e (length old) body out
 test_laid None old more slots e body out is = set_at old more slots (Branch e body out) is
 test_laid (Some mark) old more slots e body out is =
     let test = Branch e body out in
     let whole = open_more old more slots (Some test) is in (
       length slots,
       set_at old (more ++ Some test ∷ []) (slots ++ Some test ∷ []) (Mark mark (length slots)) whole,
-      (set_extends old (more ++ Some test ∷ []) (slots ++ Some test ∷ []) (Mark mark (length slots)) whole).by (length slots) test (table_at slots [] (Some test)),
+      (set_extends old (more ++ Some test ∷ []) (slots ++ Some test ∷ [])
+          (Mark mark (length slots)) whole).by (length slots) test (table_at slots [] (Some test)),
     )
 
 -- ---- statements are laid
@@ -174,9 +181,11 @@ lay_laid (tree.Loop k e x y f c) slots m b t =
       behind.node,
       test_laid k behind.slots grown.more inner.slots e inner.node behind.node is,
       laid_more x (table_of inner.slots) (table_of end) ext inner.node tail.node behind.node tail.node (lay_laid x tail.slots tail.node behind.node tail.node),
-      laid_more y (table_of inner.slots) (table_of end) ext tail.node head.node b t (later y tail.slots inner.slots (lay_grows x tail.slots tail.node behind.node tail.node) tail.node head.node b t (lay_laid y head.slots head.node b t)),
+      laid_more y (table_of inner.slots)
+          (table_of end) ext tail.node head.node b t (later y tail.slots inner.slots (lay_grows x tail.slots tail.node behind.node tail.node) tail.node head.node b t (lay_laid y head.slots head.node b t)),
       refl,
-      laid_more c (table_of inner.slots) (table_of end) ext behind.node m b t (later c behind.slots inner.slots before behind.node m b t (lay_laid c slots m b t)),
+      laid_more c (table_of inner.slots)
+          (table_of end) ext behind.node m b t (later c behind.slots inner.slots before behind.node m b t (lay_laid c slots m b t)),
     )
 lay_laid (tree.Break c) slots m b t = (refl, (lay c slots m b t).node, lay_laid c slots m b t)
 lay_laid (tree.Continue c) slots m b t = (refl, (lay c slots m b t).node, lay_laid c slots m b t)

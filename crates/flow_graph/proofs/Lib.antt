@@ -4,8 +4,11 @@ pub mod Closing
 pub mod Simulates
 pub mod Counting
 pub mod Fitting
+pub mod Rising
 pub mod Stopping
 pub mod Listing
 pub mod Places
 pub mod Whole
+pub mod Meeting
+pub mod Laws
 pub mod Samples

@@ -21,15 +21,18 @@ stops_found : (stops : List Stop) → All (λ stop. IsSome (stop_of stops stop.m
 stops_found [] = λ k d below. absurd (omega arith)
 stops_found (stop ∷ stops) =
     let more = stops_found stops in
-    All-cons (λ (z : Stop). IsSome (stop_of (stop ∷ stops) z.mark)) stop stops (found_first (stop.mark == stop.mark) stop (stop_of stops stop.mark) (eq-eqb stop.mark stop.mark refl))
+    All-cons (λ (z : Stop). IsSome (stop_of (stop ∷ stops) z.mark)) stop stops (found_first (stop.mark == stop.mark) stop (stop_of stops stop.mark)
+    (eq-eqb stop.mark stop.mark refl))
     (λ k d below. let other = get_or stops k d in found_later (stop.mark == other.mark) stop (stop_of stops other.mark) (more k d below))
 
 pub places_are : (graph : FlowGraph) → All (HasPlace graph) (places_of graph)
 places_are graph =
     All-cons (HasPlace graph) place.Entry _ tt (All-append (HasPlace graph) (map (λ (stop : Stop). place.Mark stop.mark) graph.stops) (place.Exit ∷ [])
-    (All-map (HasPlace graph) (λ (stop : Stop). place.Mark stop.mark) graph.stops (stops_found graph.stops)) (All-cons (HasPlace graph) place.Exit [] tt (λ k d below. absurd (omega arith))))
+    (All-map (HasPlace graph) (λ (stop : Stop). place.Mark stop.mark) graph.stops (stops_found graph.stops))
+    (All-cons (HasPlace graph) place.Exit [] tt (λ k d below. absurd (omega arith))))
 
-pub places_listed : (stops : List Stop) (i : ℕ) (listed new : List Place) → length stops ≤ i → listed ++ map (λ (stop : Stop). place.Mark stop.mark) (drop i stops) ≡ place.Entry ∷ map (λ (stop : Stop). place.Mark stop.mark) stops
+pub places_listed : (stops : List Stop) (i : ℕ) (listed new : List Place) → length stops ≤ i
+    → listed ++ map (λ (stop : Stop). place.Mark stop.mark) (drop i stops) ≡ place.Entry ∷ map (λ (stop : Stop). place.Mark stop.mark) stops
     → new ≡ listed ++ place.Exit ∷ [] → new ≡ place.Entry ∷ map (λ (stop : Stop). place.Mark stop.mark) stops ++ place.Exit ∷ []
 places_listed stops i listed new past lists new_is =
     let all : listed ≡ place.Entry ∷ map (λ (stop : Stop). place.Mark stop.mark) stops =
@@ -40,5 +43,6 @@ marks_are : (stops : List Stop) → marks_among (map (λ (stop : Stop). place.Ma
 marks_are [] = refl
 marks_are (stop ∷ stops) = ap (λ (marks : List ℕ). stop.mark ∷ marks) (marks_are stops)
 
-pub marks_rise : (graph : FlowGraph) → IsStrictlyIncreasing (map (λ (stop : Stop). stop.mark) graph.stops) → IsStrictlyIncreasing (marks_among (places_of graph))
+pub marks_rise : (graph : FlowGraph) → IsStrictlyIncreasing (map (λ (stop : Stop). stop.mark) graph.stops)
+    → IsStrictlyIncreasing (marks_among (places_of graph))
 marks_rise graph rising = subst IsStrictlyIncreasing (sym (marks_are graph.stops)) rising

@@ -28,7 +28,8 @@ sums_laid : lay sums.body (Some (Return (Num (pos 0))) ∷ []) 0 0 0
 sums_laid = refl
 
 -- do { __mark(7); if (x) continue; break; } while (x);
-do_laid : lay (tree.Loop None (Var 0) (tree.Mark 7 (tree.If (Var 0) (tree.Continue tree.Nil) tree.Nil (tree.Break tree.Nil))) tree.Nil false tree.Nil) (Some (Return (Num (pos 0))) ∷ []) 0 0 0
+do_laid : lay (tree.Loop None (Var 0) (tree.Mark 7 (tree.If (Var 0) (tree.Continue tree.Nil) tree.Nil (tree.Break tree.Nil))) tree.Nil false tree.Nil)
+    (Some (Return (Num (pos 0))) ∷ []) 0 0 0
     ≡ layout (Some (Return (Num (pos 0))) ∷ Some (Branch (Var 0) 3 0) ∷ Some (Branch (Var 0) 1 0) ∷ Some (Mark 7 2) ∷ []) 3
 do_laid = refl
 

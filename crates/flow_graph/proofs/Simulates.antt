@@ -7,8 +7,9 @@ use Rattle.c_ast.specs.Tree.{Expression, Num, Statements, Program}
 use Rattle.c_ast.specs.Value.{eval, is_nonzero}
 use Rattle.c_ast.specs.Step.{Scope, LoopParts, Run, Test, Cond, Tail, Work, scope_of, Next, past_tail, to_tail, tested, entered, turned, step, values_in, evaluated, seen_next, seen}
 use Rattle.c_ast.specs.Segment.{Follows}
-use Rattle.c_ast.proofs.MarksAhead.{IsAhead, IsAheadNext, ahead_next}
-use Rattle.c_ast.proofs.Lengths.{HasLength, length-step}
+use Rattle.c_ast.specs.Environments.{HasLength}
+use Rattle.c_ast.specs.Ahead.{IsAhead, IsAheadNext}
+use Rattle.c_ast.proofs.Laws.{step_keeps_length, marks_stay_ahead}
 use Rattle.flow_graph.specs.Operation.{Operation, Set, Branch, Mark, Return}
 use Rattle.flow_graph.specs.FlowGraph.{FlowGraph, operation_at, variables_at}
 use Rattle.flow_graph.specs.Run.{Turn, Goes, Passes, Ends, turn, operand, values_of, seen_turn, seen_at, seen_from}
@@ -102,33 +103,57 @@ module _ (at : Table) where
   does : (w : Work) (x : Next) (n : ℕ) (env : List ℤ) (op : Operation) → at n ≡ Some op → Beside x (turn op env) → evaluated w ≡ operand op → Moves w x n env
   does w x n env op is beside same = inr (record { op = op; is = is; beside = beside; same = same })
 
-  chosen : (z : Bool) (s : Scope) (x y c : Statements) (w : Work) (i j q m b t : ℕ) → Laid at x i q b t → Laid at y j q b t → Laid at c q m b t → WorkLaid at w m b t → Stands (Run s (cond z x y) ∷ Run s c ∷ w) (cond z i j)
+  chosen : (z : Bool) (s : Scope) (x y c : Statements) (w : Work) (i j q m b t : ℕ) → Laid at x i q b t → Laid at y j q b t → Laid at c q m b t
+      → WorkLaid at w m b t → Stands (Run s (cond z x y) ∷ Run s c ∷ w) (cond z i j)
   chosen true s x y c w i j q m b t hx hy hc hw = record { b = b; t = t; laid = (q, hx, (m, hc, hw)) }
   chosen false s x y c w i j q m b t hx hy hc hw = record { b = b; t = t; laid = (q, hy, (m, hc, hw)) }
 
-  inside : (s : Scope) (l : LoopParts) (w : Work) (head body tail out b t : ℕ) → LoopLaid at l head body tail out b t → WorkLaid at w out b t → Stands (Run s l.body ∷ Tail s l ∷ w) body
+  inside : (s : Scope) (l : LoopParts) (w : Work) (head body tail out b t : ℕ) → LoopLaid at l head body tail out b t → WorkLaid at w out b t
+      → Stands (Run s l.body ∷ Tail s l ∷ w) body
   inside s l w head body tail out b t r h = record { b = out; t = tail; laid = (tail, r.inner, (head, body, b, t, r, refl, h)) }
 
-  turn_stands : (z : Bool) (s : Scope) (l : LoopParts) (w : Work) (head body tail out b t : ℕ) → LoopLaid at l head body tail out b t → WorkLaid at w out b t → Stands (turned z s l w) (cond z body out)
+  turn_stands : (z : Bool) (s : Scope) (l : LoopParts) (w : Work) (head body tail out b t : ℕ) → LoopLaid at l head body tail out b t → WorkLaid at w out b t
+      → Stands (turned z s l w) (cond z body out)
   turn_stands true s l w head body tail out b t r h = inside s l w head body tail out b t r h
   turn_stands false s l w head body tail out b t r h = record { b = b; t = t; laid = h }
 
-  enters : (f : Bool) (s : Scope) (l : LoopParts) (w : Work) (n head body tail out b t : ℕ) → n ≡ cond f head body → LoopLaid at l head body tail out b t → WorkLaid at w out b t → Stands (entered f s l w) n
-  enters true s l w n head body tail out b t e r h = record { b = b; t = t; laid = subst (λ (k : ℕ). WorkLaid at (Test s l ∷ w) k b t) (sym e) (body, tail, out, r, h) }
-  enters false s l w n head body tail out b t e r h = subst (λ (k : ℕ). Stands (Run s l.body ∷ Tail s l ∷ w) k) (sym e) (inside s l w head body tail out b t r h)
+  enters : (f : Bool) (s : Scope) (l : LoopParts) (w : Work) (n head body tail out b t : ℕ) → n ≡ cond f head body → LoopLaid at l head body tail out b t
+      → WorkLaid at w out b t → Stands (entered f s l w) n
+  enters true s l w n head body tail out b t e r h = record {
+    b = b;
+    t = t;
+    laid = subst (λ (k : ℕ). WorkLaid at (Test s l ∷ w) k b t) (sym e)
+        (body, tail, out, r, h);
+  }
+  enters false s l w n head body tail out b t e r h = subst (λ (k : ℕ). Stands (Run s l.body ∷ Tail s l ∷ w) k) (sym e)
+      (inside s l w head body tail out b t r h)
 
-  lighter : (f : Bool) (s : Scope) (m : Option ℕ) (e : Expression) (x y c : Statements) (w : Work) → load (entered f s (record { mark = m; cond = e; body = x; step = y }) (Run s c ∷ w)) < load (Run s (tree.Loop m e x y f c) ∷ w)
+  lighter : (f : Bool) (s : Scope) (m : Option ℕ) (e : Expression) (x y c : Statements) (w : Work)
+      → load (entered f s (record { mark = m; cond = e; body = x; step = y }) (Run s c ∷ w)) < load (Run s (tree.Loop m e x y f c) ∷ w)
   lighter true s m e x y c w = omega arith
   lighter false s m e x y c w = omega arith
 
-  test_moves : (m : Option ℕ) (s : Scope) (l : LoopParts) (w : Work) (n body tail out b t : ℕ) (env : List ℤ) → l.mark ≡ m → LoopLaid at l n body tail out b t → TestLaid at m l.cond n body out → WorkLaid at w out b t
+  test_moves : (m : Option ℕ) (s : Scope) (l : LoopParts) (w : Work) (n body tail out b t : ℕ) (env : List ℤ) → l.mark ≡ m → LoopLaid at l n body tail out b t
+      → TestLaid at m l.cond n body out → WorkLaid at w out b t
       → Moves (Test s l ∷ w) (tested m (Cond s l ∷ w) env) n env
   test_moves None s l w n body tail out b t env e r q h = inl ((refl, record { b = b; t = t; laid = (n, body, tail, out, r, q, h) }, omega arith), refl)
   test_moves (Some k) s l w n body tail out b t env e r q h = does _ _ n env (Mark k q.0) q.1 (refl, refl, record { b = b; t = t; laid = (n, body, tail, out, r, q.2, h) }) refl
 
   pub step_moves : (w : Work) (n b t : ℕ) (env : List ℤ) → WorkLaid at w n b t → Moves w (step w env) n env
   step_moves [] n b t env h = does _ _ n env (Return (Num (pos 0))) h.0 refl refl
-  step_moves (Run s tree.Nil ∷ w) n b t env h = inl ((refl, record { b = b; t = t; laid = subst (λ (k : ℕ). WorkLaid at w k b t) (sym h.1) h.2 }, omega arith), refl)
+  step_moves (Run s tree.Nil ∷ w) n b t env h = inl (
+    (
+      refl,
+      record {
+        b = b;
+        t = t;
+        laid = subst (λ (k : ℕ). WorkLaid at w k b t)
+            (sym h.1) h.2;
+      },
+      omega arith,
+    ),
+    refl,
+  )
   step_moves (Run s (tree.Set x e c) ∷ w) n b t env h = does _ _ n env (Set x e h.1.0) h.1.1 (refl, record { b = b; t = t; laid = (h.0, h.1.2, h.2) }) refl
   step_moves (Run s (tree.If e x y c) ∷ w) n b t env h =
       does _ _ n env (Branch e h.1.0 h.1.1) h.1.3 (refl, chosen (is_nonzero (eval e env)) s x y c w h.1.0 h.1.1 h.1.2 h.0 b t h.1.4 h.1.5 h.1.6 h.2) refl
@@ -152,20 +177,23 @@ module _ (at : Table) where
 
 -- At each mark the graph shows the values in scope.
 pub record Shows (f : Program) (graph : FlowGraph) : Type 0 where
-  pub by : (mark : ℕ) (w : Work) → Follows f mark w → (env : List ℤ) → length env ≡ f.vars → values_of (variables_at graph (place.Mark mark)) env ≡ values_in (scope_of w) env
+  pub by : (mark : ℕ) (w : Work) → Follows f mark w → (env : List ℤ) → length env ≡ f.vars → values_of (variables_at graph (place.Mark mark)) env
+      ≡ values_in (scope_of w) env
 
 -- A step that evaluates nothing is never refused.
 pub record AcceptsNone (holds : Option Expression → List ℤ → Bool) : Type 0 where
   pub by : (env : List ℤ) → holds None env ≡ true
 
 -- an expression that both test
-both : {R : Type 0} (s t : Bool) (x : Option R) (y : ℕ → Option R) (failed : Option R) (r : R) → s ≡ t → cond s x failed ≡ Some r → (x ≡ Some r → (j : ℕ) × (y j ≡ Some r)) → (j : ℕ) × (cond t (y j) failed ≡ Some r)
+both : {R : Type 0} (s t : Bool) (x : Option R) (y : ℕ → Option R) (failed : Option R) (r : R) → s ≡ t → cond s x failed ≡ Some r
+    → (x ≡ Some r → (j : ℕ) × (y j ≡ Some r)) → (j : ℕ) × (cond t (y j) failed ≡ Some r)
 both true true x y failed r e h go = go h
 both false false x y failed r e h go = (0, h)
 both true false x y failed r e h go = cc
 both false true x y failed r e h go = cc
 
-module _ {R : Type 0} (holds : Option Expression → List ℤ → Bool) (failed : Option R) (pass : ℕ → ℕ → List ℤ → Option R → Option R) (done : ℤ → R) (accepts : AcceptsNone holds) (f : Program) (graph : FlowGraph) (shows : Shows f graph) where
+module _ {R : Type 0} (holds : Option Expression → List ℤ → Bool) (failed : Option R) (pass : ℕ → ℕ → List ℤ → Option R → Option R) (done : ℤ → R)
+    (accepts : AcceptsNone holds) (f : Program) (graph : FlowGraph) (shows : Shows f graph) where
   abbrev pub S : ℕ → ℕ → Work → List ℤ → Option R
   S = seen holds failed pass done
 
@@ -191,19 +219,23 @@ module _ {R : Type 0} (holds : Option Expression → List ℤ → Bool) (failed 
     pub is : seen holds failed pass done steps m w env ≡ Some r
 
   abbrev pub Forward : ℕ → Type 0
-  Forward i = (m : ℕ) (w : Work) (n b t : ℕ) (env : List ℤ) (r : R) → IsAhead f w → length env ≡ f.vars → WorkLaid at w n b t → S i m w env ≡ Some r → OfGraph m n env r
+  Forward i = (m : ℕ) (w : Work) (n b t : ℕ) (env : List ℤ) (r : R) → IsAhead f w → length env ≡ f.vars → WorkLaid at w n b t → S i m w env ≡ Some r
+      → OfGraph m n env r
 
   abbrev pub Backward : ℕ → Type 0
-  Backward j = (m : ℕ) (w : Work) (n b t : ℕ) (env : List ℤ) (r : R) → IsAhead f w → length env ≡ f.vars → WorkLaid at w n b t → G j m n env ≡ Some r → OfSource m w env r
+  Backward j = (m : ℕ) (w : Work) (n b t : ℕ) (env : List ℤ) (r : R) → IsAhead f w → length env ≡ f.vars → WorkLaid at w n b t → G j m n env ≡ Some r
+      → OfSource m w env r
 
-  same_pass : (m k j : ℕ) (w : Work) (a b : List ℤ) → k ≡ j → a ≡ b → values_of (variables_at graph (place.Mark k)) a ≡ values_in (scope_of w) a → (o : Option R)
+  same_pass : (m k j : ℕ) (w : Work) (a b : List ℤ) → k ≡ j → a ≡ b → values_of (variables_at graph (place.Mark k)) a ≡ values_in (scope_of w) a
+      → (o : Option R)
       → pass m j (values_of (variables_at graph (place.Mark j)) b) o ≡ pass m k (values_in (scope_of w) a) o
   same_pass m k j w a b p q e o =
       ap (λ (z : ℕ). pass m z (values_of (variables_at graph (place.Mark z)) b) o) (sym p)
       ∙ ap (λ (v : List ℤ). pass m k (values_of (variables_at graph (place.Mark k)) v) o) (sym q)
       ∙ ap (λ (v : List ℤ). pass m k v o) e
 
-  forward_step : (i m : ℕ) (r : R) (x : Next) (y : Turn) → IsAheadNext f x → HasLength f.vars x → Beside at x y → Forward i → S-next i m x ≡ Some r → (j : ℕ) × (G-turn j m y ≡ Some r)
+  forward_step : (i m : ℕ) (r : R) (x : Next) (y : Turn) → IsAheadNext f x → HasLength f.vars x → Beside at x y → Forward i → S-next i m x ≡ Some r → (j : ℕ)
+      × (G-turn j m y ≡ Some r)
   forward_step i m r (Next.Goes w a) (Goes n b) p len q go h =
       let o = go m w n q.1.b q.1.t a r p len q.1.laid h in
       (o.steps, ap (G o.steps m n) (sym q.0) ∙ o.is)
@@ -216,8 +248,11 @@ module _ {R : Type 0} (holds : Option Expression → List ℤ → Bool) (failed 
       on None e = (0, same_pass m k j w a b q.0 q.1 shown None ∙ ap (pass m k (values_in (scope_of w) a)) (sym e) ∙ h)
       on (Some u) e =
           let o = go (suc m) w n q.2.b q.2.t a u p.0 len q.2.laid e in
-          let e' : G o.steps (suc m) n b ≡ Some u = ap (G o.steps (suc m) n) (sym q.1) ∙ o.is in
-          (o.steps, ap (pass m j (values_of (variables_at graph (place.Mark j)) b)) e' ∙ same_pass m k j w a b q.0 q.1 shown (Some u) ∙ ap (pass m k (values_in (scope_of w) a)) (sym e) ∙ h)
+          let e' : G o.steps (suc m) n b ≡ Some u = ap (G o.steps (suc m) n) (sym q.1) ∙ o.is in (
+            o.steps,
+            ap (pass m j (values_of (variables_at graph (place.Mark j)) b)) e' ∙ same_pass m k j w a b q.0 q.1 shown (Some u)
+                ∙ ap (pass m k (values_in (scope_of w) a)) (sym e) ∙ h,
+          )
   forward_step i m r (Next.Ends u) (Ends v) p len q go h = (0, ap (λ (z : ℤ). Some (done z)) (sym q) ∙ h)
   forward_step i m r (Next.Goes w a) (Passes k n b) p len q go h = absurd q
   forward_step i m r (Next.Goes w a) (Ends v) p len q go h = absurd q
@@ -232,7 +267,8 @@ module _ {R : Type 0} (holds : Option Expression → List ℤ → Bool) (failed 
       let t : holds (evaluated w) env ≡ true = ap (λ (o : Option Expression). holds o env) e ∙ accepts.by env in
       ap (λ (z : Bool). cond z (S-next i m (step w env)) failed) t
 
-  forward_wait : (i m : ℕ) (r : R) (w : Work) (n : ℕ) (env : List ℤ) (x : Next) → IsAheadNext f x → length env ≡ f.vars → Waits at w n env x → Forward i → S-next i m x ≡ Some r → OfGraph m n env r
+  forward_wait : (i m : ℕ) (r : R) (w : Work) (n : ℕ) (env : List ℤ) (x : Next) → IsAheadNext f x → length env ≡ f.vars → Waits at w n env x → Forward i
+      → S-next i m x ≡ Some r → OfGraph m n env r
   forward_wait i m r w n env (Next.Goes v a) p len q go h = go m v n q.1.b q.1.t env r p len q.1.laid (ap (S i m v) (sym q.0) ∙ h)
   forward_wait i m r w n env (Next.Passes k v a) p len q go h = absurd q
   forward_wait i m r w n env (Next.Ends v) p len q go h = absurd q
@@ -243,20 +279,24 @@ module _ {R : Type 0} (holds : Option Expression → List ℤ → Bool) (failed 
   same_test : (w : Work) (env : List ℤ) (op : Operation) → evaluated w ≡ operand op → holds (evaluated w) env ≡ holds (operand op) env
   same_test w env op e = ap (λ (o : Option Expression). holds o env) e
 
-  forward_does : (i m : ℕ) (r : R) (w : Work) (n : ℕ) (env : List ℤ) → IsAhead f w → length env ≡ f.vars → Does at w (step w env) n env → Forward i → S (suc i) m w env ≡ Some r → OfGraph m n env r
+  forward_does : (i m : ℕ) (r : R) (w : Work) (n : ℕ) (env : List ℤ) → IsAhead f w → length env ≡ f.vars → Does at w (step w env) n env → Forward i
+      → S (suc i) m w env ≡ Some r → OfGraph m n env r
   forward_does i m r w n env p len q go h =
-      let o = both (holds (evaluated w) env) (holds (operand q.op) env) (S-next i m (step w env)) (λ j. G-turn j m (turn q.op env)) failed r (same_test w env q.op q.same) h (forward_step i m r (step w env) (turn q.op env) (ahead_next f w env p) (length-step f.vars w env len) q.beside go) in
+      let o = both (holds (evaluated w) env) (holds (operand q.op) env) (S-next i m (step w env))
+      (λ j. G-turn j m (turn q.op env)) failed r (same_test w env q.op q.same) h (forward_step i m r (step w env) (turn q.op env)
+      (marks_stay_ahead f w env p) (step_keeps_length f.vars w env len) q.beside go) in
       record { steps = suc o.0; is = at_op o.0 m n env q.op q.is ∙ o.1 }
 
   pub forward : (i : ℕ) → Forward i
   forward zero m w n b t env r p len l h = cc
   forward (suc i) m w n b t env r p len l h =
       elim (step_moves at w n b t env l) [
-        | inl q ↦ forward_wait i m r w n env (step w env) (ahead_next f w env p) len q.0 (forward i) (sym (unrefused i m w env q.1) ∙ h)
+        | inl q ↦ forward_wait i m r w n env (step w env) (marks_stay_ahead f w env p) len q.0 (forward i) (sym (unrefused i m w env q.1) ∙ h)
         | inr q ↦ forward_does i m r w n env p len q (forward i) h
       ]
 
-  backward_step : (j m : ℕ) (r : R) (x : Next) (y : Turn) → IsAheadNext f x → HasLength f.vars x → Beside at x y → Backward j → G-turn j m y ≡ Some r → (i : ℕ) × (S-next i m x ≡ Some r)
+  backward_step : (j m : ℕ) (r : R) (x : Next) (y : Turn) → IsAheadNext f x → HasLength f.vars x → Beside at x y → Backward j → G-turn j m y ≡ Some r → (i : ℕ)
+      × (S-next i m x ≡ Some r)
   backward_step j m r (Next.Goes w a) (Goes n b) p len q go h =
       let o = go m w n q.1.b q.1.t b r p (ap length (sym q.0) ∙ len) q.1.laid h in
       (o.steps, ap (S o.steps m w) q.0 ∙ o.is)
@@ -269,8 +309,11 @@ module _ {R : Type 0} (holds : Option Expression → List ℤ → Bool) (failed 
       on None e = (0, sym (same_pass m k z w a b q.0 q.1 shown None) ∙ ap (pass m z (values_of (variables_at graph (place.Mark z)) b)) (sym e) ∙ h)
       on (Some u) e =
           let o = go (suc m) w n q.2.b q.2.t b u p.0 (ap length (sym q.1) ∙ len) q.2.laid e in
-          let e' : S o.steps (suc m) w a ≡ Some u = ap (S o.steps (suc m) w) q.1 ∙ o.is in
-          (o.steps, ap (pass m k (values_in (scope_of w) a)) e' ∙ sym (same_pass m k z w a b q.0 q.1 shown (Some u)) ∙ ap (pass m z (values_of (variables_at graph (place.Mark z)) b)) (sym e) ∙ h)
+          let e' : S o.steps (suc m) w a ≡ Some u = ap (S o.steps (suc m) w) q.1 ∙ o.is in (
+            o.steps,
+            ap (pass m k (values_in (scope_of w) a)) e' ∙ sym (same_pass m k z w a b q.0 q.1 shown (Some u))
+                ∙ ap (pass m z (values_of (variables_at graph (place.Mark z)) b)) (sym e) ∙ h,
+          )
   backward_step j m r (Next.Ends u) (Ends v) p len q go h = (0, ap (λ (z : ℤ). Some (done z)) q ∙ h)
   backward_step j m r (Next.Goes w a) (Passes k n b) p len q go h = absurd q
   backward_step j m r (Next.Goes w a) (Ends v) p len q go h = absurd q
@@ -287,21 +330,27 @@ module _ {R : Type 0} (holds : Option Expression → List ℤ → Bool) (failed 
   backward_wait m r w n env (Next.Passes k v a) p q go = absurd q
   backward_wait m r w n env (Next.Ends v) p q go = absurd q
 
-  backward_does : (j m : ℕ) (r : R) (w : Work) (n : ℕ) (env : List ℤ) → IsAhead f w → length env ≡ f.vars → Does at w (step w env) n env → Backward j → G (suc j) m n env ≡ Some r → OfSource m w env r
+  backward_does : (j m : ℕ) (r : R) (w : Work) (n : ℕ) (env : List ℤ) → IsAhead f w → length env ≡ f.vars → Does at w (step w env) n env → Backward j
+      → G (suc j) m n env ≡ Some r → OfSource m w env r
   backward_does j m r w n env p len q go h =
-      let o = both (holds (operand q.op) env) (holds (evaluated w) env) (G-turn j m (turn q.op env)) (λ i. S-next i m (step w env)) failed r (sym (same_test w env q.op q.same)) (sym (at_op j m n env q.op q.is) ∙ h) (backward_step j m r (step w env) (turn q.op env) (ahead_next f w env p) (length-step f.vars w env len) q.beside go) in
+      let o = both (holds (operand q.op) env) (holds (evaluated w) env) (G-turn j m (turn q.op env))
+      (λ i. S-next i m (step w env)) failed r (sym (same_test w env q.op q.same)) (sym (at_op j m n env q.op q.is) ∙ h)
+      (backward_step j m r (step w env) (turn q.op env) (marks_stay_ahead f w env p) (step_keeps_length f.vars w env len) q.beside go) in
       record { steps = suc o.0; is = o.1 }
 
   -- the graph's step comes after finitely many steps of the work
-  backward_from : (j : ℕ) → Backward j → (fuel m : ℕ) (w : Work) (n b t : ℕ) (env : List ℤ) (r : R) → load w ≤ fuel → IsAhead f w → length env ≡ f.vars → WorkLaid at w n b t → G (suc j) m n env ≡ Some r → OfSource m w env r
+  backward_from : (j : ℕ) → Backward j → (fuel m : ℕ) (w : Work) (n b t : ℕ) (env : List ℤ) (r : R) → load w ≤ fuel → IsAhead f w → length env ≡ f.vars
+      → WorkLaid at w n b t → G (suc j) m n env ≡ Some r → OfSource m w env r
   backward_from j go zero m w n b t env r le p len l h =
       elim (step_moves at w n b t env l) [
-        | inl q ↦ (let o = backward_wait m r w n env (step w env) (ahead_next f w env p) q.0 (λ v c u lt pv lv. absurd (omega arith)) in record { steps = suc o.0; is = unrefused o.0 m w env q.1 ∙ o.1 })
+        | inl q ↦ (let o = backward_wait m r w n env (step w env)
+            (marks_stay_ahead f w env p) q.0 (λ v c u lt pv lv. absurd (omega arith)) in record { steps = suc o.0; is = unrefused o.0 m w env q.1 ∙ o.1 })
         | inr q ↦ backward_does j m r w n env p len q go h
       ]
   backward_from j go (suc fuel) m w n b t env r le p len l h =
       elim (step_moves at w n b t env l) [
-        | inl q ↦ (let o = backward_wait m r w n env (step w env) (ahead_next f w env p) q.0 (λ v c u lt pv lv. backward_from j go fuel m v n c u env r (omega arith) pv len lv h) in record { steps = suc o.0; is = unrefused o.0 m w env q.1 ∙ o.1 })
+        | inl q ↦ (let o = backward_wait m r w n env (step w env)
+            (marks_stay_ahead f w env p) q.0 (λ v c u lt pv lv. backward_from j go fuel m v n c u env r (omega arith) pv len lv h) in record { steps = suc o.0; is = unrefused o.0 m w env q.1 ∙ o.1 })
         | inr q ↦ backward_does j m r w n env p len q go h
       ]
 

@@ -17,15 +17,18 @@ use Rattle.flow_graph.specs.Operation.{Mark, operation_of}
 use Rattle.flow_graph.specs.FlowGraph.{stop_of}
 use Rattle.flow_graph.specs.WellFormed.{IsStop}
 use Rattle.flow_graph.specs.Stops.{with_stop, Marks, MarksOf, AreStops}
+use Rattle.flow_graph.proofs.Rising.{one_increases, front_increases, first_below, others_increase}
 
 insert_prefix : (stop : Stop) (stops : List Stop) → insert stops (prefix_len (λ other. nat_lt other.mark stop.mark) stops) stop ≡ with_stop stop stops
 insert_prefix stop [] = refl
 insert_prefix stop (first ∷ others) = on (nat_lt first.mark stop.mark) (insert_prefix stop others)
   where
     on : (t : Bool) → insert others (prefix_len (λ other. nat_lt other.mark stop.mark) others) stop ≡ with_stop stop others
-        → insert (first ∷ others) (cond t (1 + prefix_len (λ other. nat_lt other.mark stop.mark) others) 0) stop ≡ cond t (first ∷ with_stop stop others) (stop ∷ first ∷ others)
+        → insert (first ∷ others) (cond t (1 + prefix_len (λ other. nat_lt other.mark stop.mark) others) 0) stop
+        ≡ cond t (first ∷ with_stop stop others) (stop ∷ first ∷ others)
     on true more =
-        let here : 1 + prefix_len (λ other. nat_lt other.mark stop.mark) others ≡ suc (prefix_len (λ other. nat_lt other.mark stop.mark) others) = omega arith in
+        let here : 1 + prefix_len (λ other. nat_lt other.mark stop.mark) others
+        ≡ suc (prefix_len (λ other. nat_lt other.mark stop.mark) others) = omega arith in
         ap (λ (i : ℕ). insert (first ∷ others) i stop) here ∙ ap (λ (z : List Stop). first ∷ z) more
     on false more = refl
 
@@ -41,7 +44,8 @@ found_new stop (first ∷ others) none =
     let h = none_here (first.mark == stop.mark) first (stop_of others stop.mark) none in
     on (nat_lt first.mark stop.mark) h.0 (found_new stop others h.1)
   where
-    on : (t : Bool) → (first.mark == stop.mark) ≡ false → stop_of (with_stop stop others) stop.mark ≡ Some stop → stop_of (cond t (first ∷ with_stop stop others) (stop ∷ first ∷ others)) stop.mark ≡ Some stop
+    on : (t : Bool) → (first.mark == stop.mark) ≡ false → stop_of (with_stop stop others) stop.mark ≡ Some stop
+        → stop_of (cond t (first ∷ with_stop stop others) (stop ∷ first ∷ others)) stop.mark ≡ Some stop
     on true other more = ap (λ (t : Bool). cond t (Some first) (stop_of (with_stop stop others) stop.mark)) other ∙ more
     on false other more = ap (λ (t : Bool). cond t (Some stop) (stop_of (first ∷ others) stop.mark)) (eq-eqb stop.mark stop.mark refl)
 
@@ -49,7 +53,8 @@ found_old : (stop : Stop) (stops : List Stop) (mark : ℕ) → (stop.mark == mar
 found_old stop [] mark other = ap (λ (t : Bool). cond t (Some stop) None) other
 found_old stop (first ∷ others) mark other = on (nat_lt first.mark stop.mark) (found_old stop others mark other)
   where
-    on : (t : Bool) → stop_of (with_stop stop others) mark ≡ stop_of others mark → stop_of (cond t (first ∷ with_stop stop others) (stop ∷ first ∷ others)) mark ≡ stop_of (first ∷ others) mark
+    on : (t : Bool) → stop_of (with_stop stop others) mark ≡ stop_of others mark
+        → stop_of (cond t (first ∷ with_stop stop others) (stop ∷ first ∷ others)) mark ≡ stop_of (first ∷ others) mark
     on true more = ap (λ (z : Option Stop). cond (first.mark == mark) (Some first) z) more
     on false more = ap (λ (t : Bool). cond t (Some stop) (stop_of (first ∷ others) mark)) other
 
@@ -62,22 +67,6 @@ apart stop first others none over =
 
 abbrev marks : List Stop → List ℕ
 marks stops = map (λ (stop : Stop). stop.mark) stops
-
-one_increases : (x : ℕ) → IsStrictlyIncreasing (x ∷ [])
-one_increases x = λ k below. absurd (omega arith)
-
-after_next : (k : ℕ) → suc (k + 1) ≡ suc k + 1
-after_next k = omega arith
-
-front_increases : (x y : ℕ) (ys : List ℕ) → x < y → IsStrictlyIncreasing (y ∷ ys) → IsStrictlyIncreasing (x ∷ y ∷ ys)
-front_increases x y ys below rising zero within = below
-front_increases x y ys below rising (suc k) within = subst (λ (i : ℕ). slice_index (y ∷ ys) k < slice_index (x ∷ y ∷ ys) i) (after_next k) (rising k (omega arith))
-
-first_below : (x y : ℕ) (ys : List ℕ) → IsStrictlyIncreasing (x ∷ y ∷ ys) → x < y
-first_below x y ys rising = rising 0 (omega arith)
-
-others_increase : (x : ℕ) (xs : List ℕ) → IsStrictlyIncreasing (x ∷ xs) → IsStrictlyIncreasing xs
-others_increase x xs rising = λ k within. subst (λ (i : ℕ). slice_index xs k < slice_index (x ∷ xs) i) (sym (after_next k)) (rising (suc k) (omega arith))
 
 -- a stop greater than a number, among those that rise from it
 rising_from : (low : ℕ) (stop : Stop) (stops : List Stop) → low < stop.mark → stop_of stops stop.mark ≡ None → IsStrictlyIncreasing (low ∷ marks stops)
@@ -93,9 +82,11 @@ rising_from low stop (first ∷ others) below none rising =
         → IsStrictlyIncreasing (low ∷ marks (cond t (first ∷ with_stop stop others) (stop ∷ first ∷ others)))
     on true is low_below later more = front_increases low first.mark (marks (with_stop stop others)) low_below (more (grind (arith, nat_tests)))
     on false is low_below later more =
-        front_increases low stop.mark (first.mark ∷ marks others) below (front_increases stop.mark first.mark (marks others) (apart stop first others none is) later)
+        front_increases low stop.mark (first.mark ∷ marks others) below (front_increases stop.mark first.mark (marks others)
+        (apart stop first others none is) later)
 
-rising_more : (stop : Stop) (stops : List Stop) → stop_of stops stop.mark ≡ None → IsStrictlyIncreasing (marks stops) → IsStrictlyIncreasing (marks (with_stop stop stops))
+rising_more : (stop : Stop) (stops : List Stop) → stop_of stops stop.mark ≡ None → IsStrictlyIncreasing (marks stops)
+    → IsStrictlyIncreasing (marks (with_stop stop stops))
 rising_more stop [] none rising = one_increases stop.mark
 rising_more stop (first ∷ others) none rising =
     on (nat_lt first.mark stop.mark) refl (λ less. rising_from first.mark stop others less (none_here (first.mark == stop.mark) first (stop_of others stop.mark) none).1 rising)
@@ -150,9 +141,16 @@ module _ (f : Program) (ops : List Op) (count : ℕ) (stops : List Stop) (are : 
             let node_is : node ≡ count = marks.once node count mark next stop.next is here' in
             let is' : Marks ops count mark next = subst (λ (n : ℕ). Marks ops n mark next) node_is is in
             let next_is : stop.next ≡ next = (let e : Some (Mark mark stop.next) ≡ Some (Mark mark next) = sym here' ∙ is' in cc) in
-            record { stop = stop; found = subst (λ (k : ℕ). stop_of (with_stop stop stops) k ≡ Some stop) mark_is (found_new stop stops new_mark); next_is = next_is }
+            record {
+              stop = stop;
+              found = subst (λ (k : ℕ). stop_of (with_stop stop stops) k
+                  ≡ Some stop) mark_is (found_new stop stops new_mark);
+              next_is = next_is;
+            }
         on false other =
-            let apart : ¬ (node ≡ count) = (λ e. (let here' : Some (Mark mark next) ≡ Some (Mark stop.mark stop.next) = sym (subst (λ (n : ℕ). Marks ops n mark next) e is) ∙ here in let k : stop.mark ≡ mark = cc in let t : (stop.mark == mark) ≡ true = eq-eqb stop.mark mark k in cc)) in
+            let apart : ¬ (node ≡ count) = (λ e. (let here' : Some (Mark mark next)
+            ≡ Some (Mark stop.mark stop.next) = sym (subst (λ (n : ℕ). Marks ops n mark next) e is) ∙ here in let k : stop.mark
+            ≡ mark = cc in let t : (stop.mark == mark) ≡ true = eq-eqb stop.mark mark k in cc)) in
             let old = are.each node mark next (before apart (nat_lt node count) refl) is in
             record { stop = old.stop; found = found_old stop stops mark other ∙ old.found; next_is = old.next_is }
           where
@@ -160,16 +158,20 @@ module _ (f : Program) (ops : List Op) (count : ℕ) (stops : List Stop) (are : 
             before apart true lt = grind (arith, nat_tests)
             before apart false lt = absurd (apart (grind (arith, nat_tests)))
 
-    only_more : (mark : ℕ) (other : Stop) → stop_of (with_stop stop stops) mark ≡ Some other → (node : ℕ) × (node < count + 1) × Marks ops node mark other.next × AreInScope f (place.Mark mark) other.scope
+    only_more : (mark : ℕ) (other : Stop) → stop_of (with_stop stop stops) mark ≡ Some other → (node : ℕ) × (node < count + 1) × Marks ops node mark other.next
+        × AreInScope f (place.Mark mark) other.scope
     only_more mark other found = on (stop.mark == mark) refl
       where
-        on : (t : Bool) → (stop.mark == mark) ≡ t → (node : ℕ) × (node < count + 1) × Marks ops node mark other.next × AreInScope f (place.Mark mark) other.scope
+        on : (t : Bool) → (stop.mark == mark) ≡ t → (node : ℕ) × (node < count + 1) × Marks ops node mark other.next
+            × AreInScope f (place.Mark mark) other.scope
         on true same =
             let mark_is : stop.mark ≡ mark = eqb-true stop.mark mark same in
-            let new : stop_of (with_stop stop stops) mark ≡ Some stop = subst (λ (k : ℕ). stop_of (with_stop stop stops) k ≡ Some stop) mark_is (found_new stop stops new_mark) in
+            let new : stop_of (with_stop stop stops) mark
+            ≡ Some stop = subst (λ (k : ℕ). stop_of (with_stop stop stops) k ≡ Some stop) mark_is (found_new stop stops new_mark) in
             let stop_is : stop ≡ other = (let e : Some stop ≡ Some other = sym new ∙ found in cc) in
             subst (λ (z : Stop). (node : ℕ) × (node < count + 1) × Marks ops node mark z.next × AreInScope f (place.Mark mark) z.scope) stop_is
-            (subst (λ (k : ℕ). (node : ℕ) × (node < count + 1) × Marks ops node k stop.next × AreInScope f (place.Mark k) stop.scope) mark_is (count, omega arith, here, scope))
+            (subst (λ (k : ℕ). (node : ℕ) × (node < count + 1) × Marks ops node k stop.next
+            × AreInScope f (place.Mark k) stop.scope) mark_is (count, omega arith, here, scope))
         on false apart = let o = are.only mark other (sym (found_old stop stops mark apart) ∙ found) in (o.0, omega (arith, o.1), o.2, o.3)
 
     pub one_more : AreStops f ops (count + 1) (with_stop stop stops)
@@ -180,16 +182,19 @@ module _ (f : Program) (ops : List Op) (count : ℕ) (stops : List Stop) (are : 
 op_here : (ops : List Op) (i : ℕ) (found : Op) → i < length ops → found ≡ get_or ops i found → slice_get ops i ≡ Some found
 op_here ops i found below is = slice_get-get_or ops i found below ∙ ap Some (sym is)
 
-pub marks_here : (ops : List Op) (i : ℕ) (found : Op) (mark next : ℕ) → i < length ops → found ≡ get_or ops i found → found ≡ op.Mark mark next → Marks ops i mark next
+pub marks_here : (ops : List Op) (i : ℕ) (found : Op) (mark next : ℕ) → i < length ops → found ≡ get_or ops i found → found ≡ op.Mark mark next
+    → Marks ops i mark next
 marks_here ops i found mark next below is mark_is = ap (option_map operation_of) (op_here ops i found below is ∙ ap Some mark_is)
 
-pub stops_one : (f : Program) (ops : List Op) (count : ℕ) (old new : List Stop) (listed scope : List ℕ) (found : Op) (mark next : ℕ) → MarksOf f ops → AreStops f ops count old
+pub stops_one : (f : Program) (ops : List Op) (count : ℕ) (old new : List Stop) (listed scope : List ℕ) (found : Op) (mark next : ℕ) → MarksOf f ops
+    → AreStops f ops count old
     → count < length ops → found ≡ get_or ops count found → found ≡ op.Mark mark next → AreInScope f (place.Mark mark) listed → scope ≡ listed
     → new ≡ with_stop (record { mark = mark; next = next; scope = scope }) old → AreStops f ops (count + 1) new
 stops_one f ops count old new listed scope found mark next marks are below is mark_is in_scope scope_is new_is =
     let stop : Stop = record { mark = mark; next = next; scope = scope } in
     let in_scope' : AreInScope f (place.Mark mark) scope = subst (λ (z : List ℕ). AreInScope f (place.Mark mark) z) (sym scope_is) in_scope in
-    subst (λ (z : List Stop). AreStops f ops (count + 1) z) (sym new_is) (one_more f ops count old are marks stop (marks_here ops count found mark next below is mark_is) in_scope')
+    subst (λ (z : List Stop). AreStops f ops (count + 1) z) (sym new_is)
+    (one_more f ops count old are marks stop (marks_here ops count found mark next below is mark_is) in_scope')
 
 no_mark : (found : Op) → ((mark next : ℕ) → found ≡ op.Mark mark next → ⊥) → (mark next : ℕ) → Some (operation_of found) ≡ Some (Mark mark next) → ⊥
 no_mark (op.Mark m n) not_mark mark next is = not_mark m n refl
@@ -197,12 +202,17 @@ no_mark (op.Set x e n) not_mark mark next is = absurd cc
 no_mark (op.Branch e n m) not_mark mark next is = absurd cc
 no_mark (op.Return e) not_mark mark next is = absurd cc
 
-pub stops_other : (f : Program) (ops : List Op) (count : ℕ) (old new : List Stop) (found : Op) → AreStops f ops count old → count < length ops → found ≡ get_or ops count found
+pub stops_other : (f : Program) (ops : List Op) (count : ℕ) (old new : List Stop) (found : Op) → AreStops f ops count old → count < length ops → found
+    ≡ get_or ops count found
     → ((mark next : ℕ) → found ≡ op.Mark mark next → ⊥) → new ≡ old → AreStops f ops (count + 1) new
 stops_other f ops count old new found are below is not_mark new_is =
     subst (λ (z : List Stop). AreStops f ops (count + 1) z) (sym new_is)
-    (other_op f ops count old are (λ mark next here. no_mark found not_mark mark next (sym (ap (option_map operation_of) (op_here ops count found below is)) ∙ here)))
+    (other_op f ops count old are (λ mark next here. no_mark found not_mark mark next (sym (ap (option_map operation_of) (op_here ops count found below is))
+    ∙ here)))
 
-pub insert_at : (stop : Stop) (stops list new : List Stop) (place mark : ℕ) → list ≡ stops → place ≡ prefix_len (λ other. nat_lt other.mark mark) list → mark ≡ stop.mark → new ≡ insert stops place stop → new ≡ with_stop stop stops
+pub insert_at : (stop : Stop) (stops list new : List Stop) (place mark : ℕ) → list ≡ stops → place ≡ prefix_len (λ other. nat_lt other.mark mark) list → mark
+    ≡ stop.mark → new ≡ insert stops place stop → new ≡ with_stop stop stops
 insert_at stop stops list new place mark list_is place_is mark_is new_is =
-    new_is ∙ ap (λ i. insert stops i stop) (place_is ∙ ap (prefix_len (λ other. nat_lt other.mark mark)) list_is ∙ ap (λ (k : ℕ). prefix_len (λ other. nat_lt other.mark k) stops) mark_is) ∙ insert_prefix stop stops
+    new_is ∙ ap (λ i. insert stops i stop)
+    (place_is ∙ ap (prefix_len (λ other. nat_lt other.mark mark)) list_is ∙ ap (λ (k : ℕ). prefix_len (λ other. nat_lt other.mark k) stops) mark_is)
+    ∙ insert_prefix stop stops

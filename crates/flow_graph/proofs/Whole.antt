@@ -1,6 +1,8 @@
 -- The graph of a function: what is built does what the function does, and is well formed.
 use Rattle.std.proofs.lemmas.Option.{slice_get_within}
-use Rattle.std.proofs.Common.{◌≡◌, ℕ, zero, suc, ◌<◌, ◌^◌, Bool, false, inl, inr, List, [], ◌∷◌, length, All, Option, Some, None, IsSome, ℤ, pos, refl, sym, ap, ◌∙◌, subst, arith}
+use Rattle.std.proofs.lemmas.List.{length-map}
+use Rattle.std.specs.List.Sorted.{IsStrictlyIncreasing}
+use Rattle.std.proofs.Common.{◌≡◌, ◌↔◌, ℕ, zero, suc, ◌<◌, ◌^◌, Bool, false, inl, inr, List, [], ◌∷◌, length, All, Option, Some, None, IsSome, ℤ, pos, refl, sym, ap, ◌∙◌, subst, arith}
 use Rattle.std.specs.Prelude.{filter_map, slice_get}
 use Rattle.std.specs.Option.{option_map}
 use Rattle.c_ast.specs.declared.expr.Expr.{Expr, Num, fold_out-Expr, map-Expr}
@@ -14,23 +16,21 @@ use Rattle.c_ast.specs.Tree as tree
 use Rattle.c_ast.specs.Tree.{Expression, Statements, Program}
 use Rattle.c_ast.specs.View.{expression_level, expression_of, statements_of}
 use Rattle.c_ast.specs.Function.{Function, IsFunction, program_of}
-use Rattle.c_ast.specs.Step.{Scope, LoopParts, Run, Test, Cond, Tail, Work, scope_of, first_variables, start, spread, seen}
+use Rattle.c_ast.specs.Step.{Scope, LoopParts, Run, Test, Cond, Tail, Work, scope_of, first_variables, start, values_in, spread, seen}
 use Rattle.c_ast.specs.Returns.{always}
 use Rattle.c_ast.specs.Trace.{with_event, no_event}
-use Rattle.c_ast.specs.Segment.{StandsIn, Follows, GoesOnFrom, at_mark, at_exit}
+use Rattle.c_ast.specs.Segment.{StandsIn, Follows, GoesOnFrom, FitsPlace, at_mark, at_exit}
 use Rattle.c_ast.specs.Formed.{marks}
 use Rattle.c_ast.specs.Scope.{IsPlace, variables_in}
-use Rattle.c_ast.specs.Shown.{evaluates_fitting}
+use Rattle.c_ast.specs.FitsRun.{evaluates_fitting}
 use Rattle.c_ast.specs.Outcome.{returned}
 use Rattle.c_ast.specs.Judged.{at_most}
-use Rattle.c_ast.proofs.MarksAhead.{IsAhead, ahead_at_start, ahead_after}
-use Rattle.c_ast.proofs.Lengths.{length-spread}
-use Rattle.c_ast.proofs.Scoped.{first_below}
-use Rattle.c_ast.proofs.Environments.{values_in-listed}
+use Rattle.c_ast.specs.Ahead.{IsAhead}
+use Rattle.c_ast.proofs.Laws.{marks_are_ahead, marks_are_ahead_at_start, spread_has_length, parameters_are_below, values_are_listed}
 use Rattle.flow_graph.specs.declared.op.Op.{Op}
 use Rattle.flow_graph.specs.declared.stop.Stop.{Stop}
 use Rattle.flow_graph.specs.Operation.{Operation, Mark, Return, operation_of}
-use Rattle.flow_graph.specs.FlowGraph.{FlowGraph, operation_at, stop_of, next_of, scope_of_stop, node_after, variables_at, GoesOnAt}
+use Rattle.flow_graph.specs.FlowGraph.{FlowGraph, operation_at, stop_of, next_of, scope_of_stop, node_after, variables_at, width_at, GoesOnAt, HasPlace}
 use Rattle.flow_graph.specs.Run.{values_of, seen_from}
 use Rattle.flow_graph.specs.WellFormed.{Fits, IsFlowGraph}
 use Rattle.flow_graph.specs.Built.{IsGraphOf}
@@ -41,7 +41,8 @@ use Rattle.flow_graph.proofs.Laid.{Table, TestLaid, Laid, LoopLaid, IsEnd, WorkL
 use Rattle.flow_graph.proofs.Closing.{opens, closed_table, closed_length}
 use Rattle.flow_graph.proofs.Counting.{slot_marks, some_marks, one_node, lay_counts, stands_somewhere}
 use Rattle.flow_graph.proofs.Fitting.{LayFits, lay_fits, fits_more}
-use Rattle.flow_graph.proofs.Listing.{spread-variables_in, variables_in-All}
+use Rattle.flow_graph.proofs.Listing.{spread-variables_in, parameters_counted, variables_in-All}
+use Rattle.flow_graph.proofs.Rising.{listed_rise}
 use Rattle.flow_graph.proofs.Simulates.{Shows, AcceptsNone, OfGraph, OfSource, forward, backward}
 
 -- ---- each mark of the function has its node
@@ -55,7 +56,8 @@ record Found (at : Table) (mark : ℕ) (v : Work) : Type 0 where
   laid : WorkLaid at v node b t
 
 module _ (at : Table) where
-  test_found : (m : Option ℕ) (s : Scope) (l : LoopParts) (w : Work) (head body tail out b t k : ℕ) (v : Work) → m ≡ Some k → v ≡ Cond s l ∷ w → TestLaid at m l.cond head body out → LoopLaid at l head body tail out b t → WorkLaid at w out b t → Found at k v
+  test_found : (m : Option ℕ) (s : Scope) (l : LoopParts) (w : Work) (head body tail out b t k : ℕ) (v : Work) → m ≡ Some k → v ≡ Cond s l ∷ w
+      → TestLaid at m l.cond head body out → LoopLaid at l head body tail out b t → WorkLaid at w out b t → Found at k v
   test_found None s l w head body tail out b t k v e q h r g = cc
   test_found (Some j) s l w head body tail out b t k v e q h r g =
       let p : j ≡ k = cc in
@@ -129,7 +131,8 @@ module _ (f : Function) (is : IsFunction f) (ops : List Op) (entry : ℕ) (out :
   -- the operations stand where the layout has them
   table : (i : ℕ) → table_of final.slots i ≡ option_map operation_of (slice_get ops i)
   table i =
-      ap (λ (z : Slots). table_of z i) (sym slots_are) ∙ closed_table out.slots i unfilled ∙ ap (λ (z : List Op). option_map operation_of (slice_get z i)) (sym out.ops_are)
+      ap (λ (z : Slots). table_of z i) (sym slots_are) ∙ closed_table out.slots i unfilled
+      ∙ ap (λ (z : List Op). option_map operation_of (slice_get z i)) (sym out.ops_are)
 
   count : length ops ≡ length final.slots
   count = ap length out.ops_are ∙ closed_length out.slots unfilled ∙ ap length slots_are
@@ -143,19 +146,22 @@ module _ (f : Function) (is : IsFunction f) (ops : List Op) (entry : ℕ) (out :
         let some = some_marks final.slots node mark next (table node ∙ here) in
         let stands = stands_somewhere (statements_of f.body) (first_variables f.params) [] mark (omega (arith, few_marks mark, some)) in
         record { work = stands.0; from = stands.1 };
-    once = λ first second mark next after p q. one_node final.slots first second mark next after (omega (arith, few_marks mark, is.marked_once mark)) (table first ∙ p) (table second ∙ q);
+    once = λ first second mark next after p q. one_node final.slots first second mark next after (omega (arith, few_marks mark, is.marked_once mark))
+        (table first ∙ p) (table second ∙ q);
   }
 
   fits : LayFits (length f.vars) final.slots final.node
-  fits = lay_fits (statements_of f.body) (length f.vars) (first_variables f.params) false ending 0 0 0 (first_below f.params (length f.vars) is.parameters) is.formed (record {
-    fit = record { by = ending_fits };
-    next = omega arith;
-    out = omega arith;
-    again = omega arith;
-  })
+  fits = lay_fits (statements_of f.body) (length f.vars)
+      (first_variables f.params) false ending 0 0 0 (parameters_are_below f.params (length f.vars) is.parameters) is.formed (record {
+        fit = record { by = ending_fits };
+        next = omega arith;
+        out = omega arith;
+        again = omega arith;
+      })
     where
       ending_fits : (i : ℕ) (op : Operation) → table_of ending i ≡ Some op → Fits (table_of ending) (length ending) (length f.vars) i op
-      ending_fits zero op h = let same : Return (tree.Num (pos 0)) ≡ op = cc in subst (λ (o : Operation). Fits (table_of ending) (length ending) (length f.vars) zero o) same tt
+      ending_fits zero op h = let same : Return (tree.Num (pos 0))
+          ≡ op = cc in subst (λ (o : Operation). Fits (table_of ending) (length ending) (length f.vars) zero o) same tt
       ending_fits (suc i) op h = cc
 
   node_is : entry ≡ final.node
@@ -173,15 +179,22 @@ module _ (f : Function) (is : IsFunction f) (ops : List Op) (entry : ℕ) (out :
   extends : Extends (table_of final.slots) (λ i. option_map operation_of (slice_get ops i))
   extends = record { by = λ i o h. sym (table i) ∙ h }
 
-  fit : (node : ℕ) (o : Operation) → option_map operation_of (slice_get ops node) ≡ Some o → Fits (λ i. option_map operation_of (slice_get ops i)) (length ops) (length f.vars) node o
-  fit node o here = fits_more (table_of final.slots) _ extends (length final.slots) (length ops) (length f.vars) node o (omega (arith, count)) (fits.fit.by node o (table node ∙ here))
+  fit : (node : ℕ) (o : Operation) → option_map operation_of (slice_get ops node) ≡ Some o
+      → Fits (λ i. option_map operation_of (slice_get ops i)) (length ops) (length f.vars) node o
+  fit node o here = fits_more (table_of final.slots) _ extends (length final.slots) (length ops) (length f.vars) node o (omega (arith, count))
+      (fits.fit.by node o (table node ∙ here))
 
   module _ (stops : List Stop) (are : AreStops (program_of f) ops (length ops) stops) where
     afters : (mark : ℕ) (stop : Stop) → stop_of stops mark ≡ Some stop → (stop.next < length ops) × All (λ x. x < length f.vars) stop.scope
+        × IsStrictlyIncreasing stop.scope
     afters mark stop found =
         let o = are.only mark stop found in
         let p = marks_of.places o.0 mark stop.next o.2 in
-        (fit o.0 (Mark mark stop.next) o.2, subst (All (λ (x : ℕ). x < length f.vars)) (sym (o.3 p.work p.from)) (variables_in-All (scope_of p.work) (length f.vars)))
+        let scope_is = sym (o.3 p.work p.from) in (
+          fit o.0 (Mark mark stop.next) o.2,
+          subst (All (λ (x : ℕ). x < length f.vars)) scope_is (variables_in-All (scope_of p.work) (length f.vars)),
+          subst IsStrictlyIncreasing scope_is (listed_rise (scope_of p.work) (length f.vars)),
+        )
 
     pub well_formed : IsFlowGraph (record { params = f.params; vars = length f.vars; ops = ops; entry = entry; stops = stops })
     well_formed = record {
@@ -205,10 +218,12 @@ module _ (f : Function) (is : IsFunction f) (ops : List Op) (entry : ℕ) (out :
     program = program_of f
 
     laid : Laid at program.body entry 0 0 0
-    laid = subst (λ (n : ℕ). Laid at program.body n 0 0 0) (sym node_is) (laid_more program.body (table_of final.slots) at extends final.node 0 0 0 (lay_laid program.body ending 0 0 0))
+    laid = subst (λ (n : ℕ). Laid at program.body n 0 0 0) (sym node_is)
+        (laid_more program.body (table_of final.slots) at extends final.node 0 0 0 (lay_laid program.body ending 0 0 0))
 
     end : IsEnd at 0
-    end = extends.by 0 (Return (tree.Num (pos 0))) ((grows_extends ending final.slots (lay_grows program.body ending 0 0 0)).by 0 (Return (tree.Num (pos 0))) refl)
+    end = extends.by 0 (Return (tree.Num (pos 0)))
+        ((grows_extends ending final.slots (lay_grows program.body ending 0 0 0)).by 0 (Return (tree.Num (pos 0))) refl)
 
     -- what the graph knows of a mark of the function
     record Knows (mark : ℕ) (w : Work) : Type 0 where
@@ -235,7 +250,7 @@ module _ (f : Function) (is : IsFunction f) (ops : List Op) (entry : ℕ) (out :
     shows = record {
       by = λ mark w follows env len.
           let k = knows mark w follows in
-          ap (λ (z : List ℕ). values_of z env) (k.scope ∙ ap (variables_in (scope_of w)) (sym len)) ∙ values_in-listed (scope_of w) env;
+          ap (λ (z : List ℕ). values_of z env) (k.scope ∙ ap (variables_in (scope_of w)) (sym len)) ∙ values_are_listed (scope_of w) env;
     }
 
     -- the node at which a run goes on from a place
@@ -252,13 +267,13 @@ module _ (f : Function) (is : IsFunction f) (ops : List Op) (entry : ℕ) (out :
       b = 0;
       t = 0;
       laid = subst (λ (z : Work). WorkLaid at z entry 0 0) (sym from) (0, laid, (end, end, end));
-      placed = subst (λ (z : Work). IsAhead program z) (sym from) (ahead_at_start program);
+      placed = subst (λ (z : Work). IsAhead program z) (sym from) (marks_are_ahead_at_start program);
       from = tt;
       scope = ap (λ (z : Work). variables_in (scope_of z) (length f.vars)) (sym from);
     }
     starts (place.Mark mark) w from =
         let k = knows mark w from in
-        record { b = k.b; t = k.t; laid = k.laid; placed = ahead_after program mark w from; from = k.known; scope = k.scope }
+        record { b = k.b; t = k.t; laid = k.laid; placed = marks_are_ahead program (place.Mark mark) w from; from = k.known; scope = k.scope }
     starts place.Exit w from = absurd from
 
     values_same : (l : Place) (w : Work) → Starts l w → (e : List ℤ) → spread (variables_at graph l) (length f.vars) e ≡ spread (scope_of w) (length f.vars) e
@@ -273,40 +288,66 @@ module _ (f : Function) (is : IsFunction f) (ops : List Op) (entry : ℕ) (out :
         on (Some stop) found some = let o = are.only mark stop found in marks_of.places o.0 mark stop.next o.2
     a_place place.Exit goes = absurd goes
 
+    -- the values that fit the function's place fit the graph's
+    mark_width : (mark : ℕ) (w : Work) → Follows program mark w → length (values_in (scope_of w) (spread [] (length f.vars) []))
+        ≡ width_at graph (place.Mark mark)
+    mark_width mark w follows =
+        let env = spread [] (length f.vars) [] in
+        ap length (sym (values_are_listed (scope_of w) env)) ∙ length-map (variables_in (scope_of w) (length env)) _
+        ∙ ap (λ (n : ℕ). length (variables_in (scope_of w) n)) (spread_has_length [] (length f.vars) []) ∙ ap length (sym (knows mark w follows).scope)
+
+    place_fits : (l : Place) (e : List ℤ) → HasPlace graph l → FitsPlace program l e ↔ (length e ≡ width_at graph l)
+    place_fits place.Entry e has =
+        let width = parameters_counted f.params (length f.vars) is.parameters in
+        (λ fits. fits ∙ sym width, λ fits. fits ∙ width)
+    place_fits (place.Mark mark) e has =
+        let p = a_place (place.Mark mark) has in
+        (λ fits. fits.2 ∙ mark_width mark fits.0 fits.1, λ fits. (p.work, p.from, fits ∙ sym (mark_width mark p.work p.from)))
+    place_fits place.Exit e has = (λ fits. fits, λ fits. fits)
+
     -- whatever is observed from a place on
-    module _ {R : Type 0} (holds : Option Expression → List ℤ → Bool) (failed : Option R) (pass : ℕ → ℕ → List ℤ → Option R → Option R) (done : ℤ → R) (accepts : AcceptsNone holds) where
-      to_graph : (l : Place) (w : Work) → GoesOnFrom program l w → (e : List ℤ) (r : R) (steps : ℕ) → seen holds failed pass done steps 0 w (spread (scope_of w) (length f.vars) e) ≡ Some r
+    module _ {R : Type 0} (holds : Option Expression → List ℤ → Bool) (failed : Option R) (pass : ℕ → ℕ → List ℤ → Option R → Option R) (done : ℤ → R)
+        (accepts : AcceptsNone holds) where
+      to_graph : (l : Place) (w : Work) → GoesOnFrom program l w → (e : List ℤ) (r : R) (steps : ℕ)
+          → seen holds failed pass done steps 0 w (spread (scope_of w) (length f.vars) e) ≡ Some r
           → OfGraph holds failed pass done accepts program graph shows 0 (node_after graph l) (spread (variables_at graph l) (length f.vars) e) r
       to_graph l w from e r steps is =
           let s = starts l w from in
-          forward holds failed pass done accepts program graph shows steps 0 w (node_after graph l) s.b s.t (spread (variables_at graph l) (length f.vars) e) r s.placed (length-spread (variables_at graph l) (length f.vars) e) s.laid
+          forward holds failed pass done accepts program graph shows steps 0 w (node_after graph l) s.b s.t (spread (variables_at graph l)
+          (length f.vars) e) r s.placed (spread_has_length (variables_at graph l) (length f.vars) e) s.laid
           (ap (seen holds failed pass done steps 0 w) (values_same l w s e) ∙ is)
 
-      to_source : (l : Place) (w : Work) → GoesOnFrom program l w → (e : List ℤ) (r : R) (steps : ℕ) → seen_from holds failed pass done graph steps 0 (node_after graph l) (spread (variables_at graph l) (length f.vars) e) ≡ Some r
+      to_source : (l : Place) (w : Work) → GoesOnFrom program l w → (e : List ℤ) (r : R) (steps : ℕ)
+          → seen_from holds failed pass done graph steps 0 (node_after graph l) (spread (variables_at graph l) (length f.vars) e) ≡ Some r
           → OfSource holds failed pass done accepts program graph shows 0 w (spread (scope_of w) (length f.vars) e) r
       to_source l w from e r steps is =
           let s = starts l w from in
-          backward holds failed pass done accepts program graph shows steps 0 w (node_after graph l) s.b s.t (spread (scope_of w) (length f.vars) e) r s.placed (length-spread (scope_of w) (length f.vars) e) s.laid
+          backward holds failed pass done accepts program graph shows steps 0 w (node_after graph l) s.b s.t (spread (scope_of w)
+          (length f.vars) e) r s.placed (spread_has_length (scope_of w) (length f.vars) e) s.laid
           (ap (seen_from holds failed pass done graph steps 0 (node_after graph l)) (sym (values_same l w s e)) ∙ is)
 
       -- from the entry, where the parameters have values
-      begin_graph : (inputs : List ℤ) (r : R) (steps : ℕ) → seen holds failed pass done steps 0 (start program) (spread (first_variables f.params) (length f.vars) inputs) ≡ Some r
+      begin_graph : (inputs : List ℤ) (r : R) (steps : ℕ)
+          → seen holds failed pass done steps 0 (start program) (spread (first_variables f.params) (length f.vars) inputs) ≡ Some r
           → OfGraph holds failed pass done accepts program graph shows 0 entry (spread (first_variables f.params) (length f.vars) inputs) r
       begin_graph inputs r steps is =
-          forward holds failed pass done accepts program graph shows steps 0 (start program) entry 0 0 (spread (first_variables f.params) (length f.vars) inputs) r (ahead_at_start program)
-          (length-spread (first_variables f.params) (length f.vars) inputs) (0, laid, (end, end, end)) is
+          forward holds failed pass done accepts program graph shows steps 0 (start program) entry 0 0 (spread (first_variables f.params)
+          (length f.vars) inputs) r (marks_are_ahead_at_start program)
+          (spread_has_length (first_variables f.params) (length f.vars) inputs) (0, laid, (end, end, end)) is
 
-      begin_source : (inputs : List ℤ) (r : R) (steps : ℕ) → seen_from holds failed pass done graph steps 0 entry (spread (first_variables f.params) (length f.vars) inputs) ≡ Some r
+      begin_source : (inputs : List ℤ) (r : R) (steps : ℕ)
+          → seen_from holds failed pass done graph steps 0 entry (spread (first_variables f.params) (length f.vars) inputs) ≡ Some r
           → OfSource holds failed pass done accepts program graph shows 0 (start program) (spread (first_variables f.params) (length f.vars) inputs) r
       begin_source inputs r steps is =
-          backward holds failed pass done accepts program graph shows steps 0 (start program) entry 0 0 (spread (first_variables f.params) (length f.vars) inputs) r (ahead_at_start program)
-          (length-spread (first_variables f.params) (length f.vars) inputs) (0, laid, (end, end, end)) is
+          backward holds failed pass done accepts program graph shows steps 0 (start program) entry 0 0 (spread (first_variables f.params)
+          (length f.vars) inputs) r (marks_are_ahead_at_start program)
+          (spread_has_length (first_variables f.params) (length f.vars) inputs) (0, laid, (end, end, end)) is
 
     always_accepts : AcceptsNone always
     always_accepts = record { by = λ env. refl }
 
-    narrow_accepts : AcceptsNone evaluates_fitting
-    narrow_accepts = record { by = λ env. refl }
+    fitting_accepts : AcceptsNone evaluates_fitting
+    fitting_accepts = record { by = λ env. refl }
 
     pub is_graph : IsGraphOf (program_of f) (record { params = f.params; vars = length f.vars; ops = ops; entry = entry; stops = stops })
     is_graph = record {
@@ -314,6 +355,7 @@ module _ (f : Function) (is : IsFunction f) (ops : List Op) (entry : ℕ) (out :
       vars = refl;
       places = λ l. (a_place l, λ p. (starts l p.work p.from).from);
       scopes = λ l p work from. (starts l work from).scope;
+      fits = place_fits;
       traces = λ inputs trace. (
         λ h. (let o = begin_graph always None with_event no_event always_accepts inputs trace h.steps h.ran in record { steps = o.steps; ran = o.is }),
         λ h. (let o = begin_source always None with_event no_event always_accepts inputs trace h.steps h.ran in record { steps = o.steps; ran = o.is }),
@@ -323,34 +365,43 @@ module _ (f : Function) (is : IsFunction f) (ops : List Op) (entry : ℕ) (out :
         λ h. (let p = a_place l h.from in let o = to_source always None at_mark at_exit always_accepts l p.work p.from e (l', e') h.steps h.met in record { work = p.work; from = p.from; steps = o.steps; met = o.is }),
       );
       judged = λ inputs limit result. (
-        λ h. (let o = begin_graph evaluates_fitting (Some outcome.Wide) (at_most limit) returned narrow_accepts inputs result h.steps h.is in record { steps = o.steps; is = o.is }),
-        λ h. (let o = begin_source evaluates_fitting (Some outcome.Wide) (at_most limit) returned narrow_accepts inputs result h.steps h.is in record { steps = o.steps; is = o.is }),
+        λ h. (let o = begin_graph evaluates_fitting (Some outcome.Wide)
+            (at_most limit) returned fitting_accepts inputs result h.steps h.is in record { steps = o.steps; is = o.is }),
+        λ h. (let o = begin_source evaluates_fitting (Some outcome.Wide)
+            (at_most limit) returned fitting_accepts inputs result h.steps h.is in record { steps = o.steps; is = o.is }),
       );
     }
 
 -- ---- the same, from what the code knows
 
 zero_is : expression_of (Num (pos 0)) ≡ tree.Num (pos 0)
-zero_is = fold_out-Expr Expression expression_level (Num (pos 0)) ∙ ap (λ (y : Expr-F Expr). expression_level (map-Expr Expr Expression expression_of y)) (outs-Num (pos 0))
+zero_is = fold_out-Expr Expression expression_level (Num (pos 0))
+    ∙ ap (λ (y : Expr-F Expr). expression_level (map-Expr Expr Expression expression_of y)) (outs-Num (pos 0))
 
 pub laid_out : (f : Function) (none first slots : List (Option Op)) (ops : List Op) (body : List Stmt) (end entry : ℕ) → none ≡ []
-    → layout (slots_of first) end ≡ added (slots_of none) (Some (Return (expression_of (Num (pos 0))))) → body ≡ f.body → layout (slots_of slots) entry ≡ lay (statements_of body) (slots_of first) end end end
+    → layout (slots_of first) end ≡ added (slots_of none) (Some (Return (expression_of (Num (pos 0))))) → body ≡ f.body → layout (slots_of slots) entry
+    ≡ lay (statements_of body) (slots_of first) end end end
     → length slots < 2 ^ 32 → ops ≡ filter_map (λ slot. slot) slots → IsLaidOut (program_of f) ops entry
 laid_out f none first slots ops body end entry none_is first_is body_is laid numbered ops_are =
     let start : layout (slots_of first) end ≡ layout ending 0 =
-    first_is ∙ ap (λ (z : List (Option Op)). added (slots_of z) (Some (Return (expression_of (Num (pos 0)))))) none_is ∙ ap (λ (e : Expression). layout (Some (Return e) ∷ []) 0) zero_is in
+    first_is ∙ ap (λ (z : List (Option Op)). added (slots_of z) (Some (Return (expression_of (Num (pos 0)))))) none_is
+    ∙ ap (λ (e : Expression). layout (Some (Return e) ∷ []) 0) zero_is in
     record {
       slots = slots;
-      laid = laid ∙ ap (λ (z : Layout). lay (statements_of body) z.slots z.node z.node z.node) start ∙ ap (λ (z : List Stmt). lay (statements_of z) ending 0 0 0) body_is;
+      laid = laid ∙ ap (λ (z : Layout). lay (statements_of body) z.slots z.node z.node z.node) start
+          ∙ ap (λ (z : List Stmt). lay (statements_of z) ending 0 0 0) body_is;
       ops_are = ops_are;
       numbered = numbered;
     }
 
-pub marks_listed : (f : Function) (ops listed : List Op) (entry : ℕ) → IsFunction f → IsLaidOut (program_of f) ops entry → listed ≡ ops → MarksOf (program_of f) listed
+pub marks_listed : (f : Function) (ops listed : List Op) (entry : ℕ) → IsFunction f → IsLaidOut (program_of f) ops entry → listed ≡ ops
+    → MarksOf (program_of f) listed
 marks_listed f ops listed entry is out listed_is = subst (MarksOf (program_of f)) (sym listed_is) (marks_of f is ops entry out)
 
-module _ (f : Function) (params vars entry : ℕ) (ops listed own : List Op) (stops kept : List Stop) (is : IsFunction f) (out : IsLaidOut (program_of f) ops entry) (listed_is : listed ≡ ops)
-    (are : AreStops (program_of f) listed (length listed) stops) (params_is : params ≡ f.params) (vars_is : vars ≡ length f.vars) (own_is : own ≡ ops) (kept_is : kept ≡ stops) where
+module _ (f : Function) (params vars entry : ℕ) (ops listed own : List Op) (stops kept : List Stop) (is : IsFunction f)
+    (out : IsLaidOut (program_of f) ops entry) (listed_is : listed ≡ ops)
+    (are : AreStops (program_of f) listed (length listed) stops) (params_is : params ≡ f.params) (vars_is : vars ≡ length f.vars) (own_is : own ≡ ops)
+    (kept_is : kept ≡ stops) where
   are_stops : AreStops (program_of f) ops (length ops) stops
   are_stops = subst (λ (z : List Op). AreStops (program_of f) z (length z) stops) listed_is are
 

@@ -6,26 +6,28 @@ use Rattle.c_ast.specs.Tree.{Statements}
 use Rattle.flow_graph.specs.declared.op.Op.{Op}
 use Rattle.flow_graph.specs.Operation.{Operation, Set, Branch, Mark, Return, operation_of}
 
--- the slots of the nodes so far, of which some may be open
+-- The slots of the nodes so far, of which some may be open.
 abbrev pub Slots : Type 0
 Slots = List (Option Operation)
 
+-- The slots of the code.
 abbrev pub slots_of : List (Option Op) → Slots
 slots_of = map (option_map operation_of)
 
--- the slots, and the node at which the statements begin
+-- The slots, and the node at which the statements begin.
 pub record Layout : Type 0 where
   pub slots : Slots
   pub node : ℕ
 
+-- The layout of these parts.
 abbrev pub layout : Slots → ℕ → Layout
 layout slots node = record { slots = slots; node = node }
 
--- with one more slot, which is the node
+-- With one more slot, which is the node.
 abbrev pub added : Slots → Option Operation → Layout
 added slots op = layout (slots ++ op ∷ []) (length slots)
 
--- the loop's test fills its open slot; where the loop has a mark, that fills it, and the test comes next
+-- The loop's test fills its open slot; where the loop has a mark, that fills it, and the test comes next.
 abbrev pub filled : Option ℕ → Slots → ℕ → Operation → Slots
 filled None slots head test = slice_set slots head (Some test)
 filled (Some mark) slots head test = slice_set (slots ++ Some test ∷ []) head (Some (Mark mark (length slots)))
@@ -33,7 +35,9 @@ filled (Some mark) slots head test = slice_set (slots ++ Some test ∷ []) head 
 -- The statements in front of the node `next`, where `break` and `continue` lead to `out` and `again`.
 abbrev pub lay : Statements → Slots → ℕ → ℕ → ℕ → Layout
 lay tree.Nil slots next out again = layout slots next
-lay (tree.Set x e others) slots next out again = let behind = lay others slots next out again in added behind.slots (Some (Set x e behind.node))
+lay (tree.Set x e others) slots next out again =
+    let behind = lay others slots next out again in
+    added behind.slots (Some (Set x e behind.node))
 lay (tree.If e a b others) slots next out again =
     let behind = lay others slots next out again in
     let first = lay a behind.slots behind.node out again in
@@ -44,13 +48,25 @@ lay (tree.Loop mark e body step test_first others) slots next out again =
     let head = added behind.slots None in
     let tail = lay step head.slots head.node out again in
     let inner = lay body tail.slots tail.node behind.node tail.node in
-    layout (filled mark inner.slots head.node (Branch e inner.node behind.node)) (if test_first then head.node else inner.node)
-lay (tree.Break others) slots next out again = let behind = lay others slots next out again in layout behind.slots out
-lay (tree.Continue others) slots next out again = let behind = lay others slots next out again in layout behind.slots again
-lay (tree.Return e others) slots next out again = let behind = lay others slots next out again in added behind.slots (Some (Return e))
-lay (tree.Mark mark others) slots next out again = let behind = lay others slots next out again in added behind.slots (Some (Mark mark behind.node))
-lay (tree.Block a others) slots next out again = let behind = lay others slots next out again in lay a behind.slots behind.node out again
+    let test = Branch e inner.node behind.node in
+    layout (filled mark inner.slots head.node test) (if test_first then head.node else inner.node)
+lay (tree.Break others) slots next out again =
+    let behind = lay others slots next out again in
+    layout behind.slots out
+lay (tree.Continue others) slots next out again =
+    let behind = lay others slots next out again in
+    layout behind.slots again
+lay (tree.Return e others) slots next out again =
+    let behind = lay others slots next out again in
+    added behind.slots (Some (Return e))
+lay (tree.Mark mark others) slots next out again =
+    let behind = lay others slots next out again in
+    added behind.slots (Some (Mark mark behind.node))
+lay (tree.Block a others) slots next out again =
+    let behind = lay others slots next out again in
+    lay a behind.slots behind.node out again
 
 -- What a statement adds in front of what is laid behind it.
 pub record Lays (front : Statements → Statements) (out again : ℕ) (behind made : Layout) : Type 0 where
-  pub by : (others : Statements) (slots : Slots) (next : ℕ) → behind ≡ lay others slots next out again → made ≡ lay (front others) slots next out again
+  pub by : (others : Statements) (slots : Slots) (next : ℕ) → behind ≡ lay others slots next out again
+      → made ≡ lay (front others) slots next out again

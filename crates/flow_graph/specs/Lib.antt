@@ -4,5 +4,6 @@ pub mod Run
 pub mod WellFormed
 pub mod Judged
 pub mod Built
+pub mod Laws
 pub mod Layout
 pub mod Stops

@@ -5,7 +5,7 @@ use Rattle.c_ast.specs.View.{expression_of}
 use Rattle.flow_graph.specs.declared.op.Op.{Op}
 use Rattle.flow_graph.specs.declared.op.Op.TheVariants as op
 
--- what a node does, and the nodes that may come next
+-- What a node does, and the nodes that may come next.
 pub data Operation : Type 0 where
   Set : ℕ → Expression → ℕ → Operation
   -- the second node comes next where the condition is 0
@@ -13,6 +13,7 @@ pub data Operation : Type 0 where
   Mark : ℕ → ℕ → Operation
   Return : Expression → Operation
 
+-- The operation of a node.
 abbrev pub operation_of : Op → Operation
 operation_of (op.Set x e next) = Set x (expression_of e) next
 operation_of (op.Branch e first second) = Branch (expression_of e) first second

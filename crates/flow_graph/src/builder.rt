@@ -10,7 +10,8 @@ use c_ast::{Expr, Func};
 use sqlite_items::Items;
 use std::alloc::{AllocError, Global};
 
-/// The graph of the function. It answers want of memory, also of a number for a node: these are below 2^32 - 1.
+/// The graph of the function. It answers want of memory, also of a number for a node: these are
+/// below 2^32 - 1.
 pub fn build(alloc: Global, func: &Func) -> Result<Graph, AllocError>
     ensures { IfOk result (λ graph. IsGraphOf (program_of func.now) graph) }
 {

@@ -10,8 +10,8 @@ use sqlite_items::Items;
 use std::alloc::{AllocError, Global};
 use std::marker::Model;
 
-/// A graph. Its nodes are numbered from 0. An edge leads to a mark or to a lower number, but for those out of marks; so
-/// each cycle passes a mark.
+/// A graph. Its nodes are numbered from 0. An edge leads to a mark or to a lower number, but for
+/// those out of marks; so each cycle passes a mark.
 #[derive(Debug, Drop)]
 pub struct Graph {
     pub(crate) params: u32,
@@ -25,20 +25,23 @@ pub struct Graph {
 impl Model for Graph {
     ghost use Rattle.std.specs.Coded.{codes};
     ghost use Rattle.c_ast.specs.contracts.expr.Expr as expressions;
-    ghost use Rattle.flow_graph.specs.FlowGraph.{FlowGraph};
+    ghost use Rattle.flow_graph.specs.FlowGraph.{FlowGraph, flow_graph};
     ghost use Rattle.flow_graph.specs.WellFormed.{IsFlowGraph};
 
     ghost Value = { FlowGraph };
 
     ghost coded = { Prim.hlevel (codes, expressions.the_row.coded) };
 
-    ghost view = { λ graph. record { params = graph.params; vars = graph.vars; ops = graph.ops; entry = graph.entry; stops = graph.stops } };
+    ghost view = { λ graph. flow_graph graph.params graph.vars graph.ops graph.entry graph.stops };
 
-    ghost invariant = { λ graph. IsFlowGraph (record { params = graph.params; vars = graph.vars; ops = graph.ops; entry = graph.entry; stops = graph.stops }) };
+    ghost invariant = { λ graph.
+        IsFlowGraph (flow_graph graph.params graph.vars graph.ops graph.entry graph.stops) };
 }
 
 impl Graph {
-    ghost use Rattle.flow_graph.specs.FlowGraph.{FlowGraph, stop_of, node_after, variables_at, places_of, marks_among, GoesOnAt, HasPlace};
+    ghost use Rattle.flow_graph.specs.FlowGraph.{FlowGraph, stop_of, node_after, variables_at};
+    ghost use Rattle.flow_graph.specs.FlowGraph.{width_at, places_of, marks_among, GoesOnAt};
+    ghost use Rattle.flow_graph.specs.FlowGraph.{HasPlace};
     ghost use Rattle.flow_graph.specs.WellFormed.{IsFlowGraph};
 
     /// The number of the function's parameters.
@@ -62,7 +65,9 @@ impl Graph {
         self.ops.len() as u32
     }
 
-    /// The node with this number, which is below `len`. What holds of every graph is handed on here.
+    /// The node with this number, which is below `len`. What holds of every graph is handed on
+    /// here: each node's edges lead down or to marks, and its expression can be evaluated over the
+    /// graph's variables.
     pub fn op(&self, n: u32) -> &Op
         requires { n < length self.now.ops }
         ensures op { slice_get self.now.ops n ≡ Some result.now }
@@ -105,11 +110,12 @@ impl Graph {
         Ok(places)
     }
 
-    /// The variables in scope at a place of the graph, by rising number. At the exit there are none: the result alone
-    /// has a value.
+    /// The variables in scope at a place of the graph, by rising number. At the exit there are
+    /// none: the result alone has a value.
     pub fn vars_at(&self, alloc: Global, place: Place) -> Result<Vec<u32>, AllocError>
         requires { HasPlace self.now place }
-        ensures { IfOk result (λ variables. variables.items ≡ variables_at self.now place) }
+        ensures listed { IfOk result (λ variables. variables.items ≡ variables_at self.now place) }
+        ensures rising { IfOk result (λ variables. IsStrictlyIncreasing variables.items) }
     {
         match place {
             Place::Entry => {
@@ -124,6 +130,19 @@ impl Graph {
                 Ok(Vec::from_slice(alloc, stop.scope.as_slice())?)
             }
             Place::Exit => Ok(Vec::new(alloc)),
+        }
+    }
+
+    /// How many values a run has at a place of the graph: one for each variable in scope, and at
+    /// the exit the result alone.
+    pub fn width_at(&self, place: Place) -> u32
+        requires { HasPlace self.now place }
+        ensures { result ≡ width_at self.now place }
+    {
+        match place {
+            Place::Entry => self.params,
+            Place::Mark(mark) => self.stop(mark).unwrap().scope.len() as u32,
+            Place::Exit => 1,
         }
     }
 }

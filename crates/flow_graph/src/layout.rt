@@ -1,6 +1,8 @@
-//! Statements as nodes, laid from the last to the first, so that each knows the node that comes next.
+//! Statements as nodes, laid from the last to the first, so that each knows the node that comes
+//! next.
 //!
-//! A loop's test is reached from its body, so a slot is kept open for it and filled when the body is laid.
+//! A loop's test is reached from its body, so a slot is kept open for it and filled when the body
+//! is laid.
 ghost use Rattle.std.specs.Prelude.{◌≡◌, ◌<◌, ◌^◌, length, filter_map, OnOk, IfOk, Some, None};
 ghost use Rattle.std.specs.Option.{option_map};
 ghost use Rattle.c_ast.specs.View.{put_in_front, expression_of, statements_of};
@@ -13,7 +15,8 @@ use std::alloc::{AllocError, Global};
 
 /// One more slot, and its number, which is below 2^32 - 1.
 pub(crate) fn add(slots: &mut Vec<Option<Op>>, op: Option<Op>) -> Result<u32, AllocError>
-    ensures added { IfOk result (λ node. layout (slots_of slots.new.items) node ≡ added (slots_of slots.old.items) (option_map operation_of op)) }
+    ensures added { IfOk result (λ node. layout (slots_of slots.new.items) node
+        ≡ added (slots_of slots.old.items) (option_map operation_of op)) }
     ensures numbered { OnOk result (length slots.new.items < 2 ^ 32) }
 {
     let node = slots.len();
@@ -49,7 +52,8 @@ fn fill(
 ) -> Result<(), AllocError>
     requires within { head < length slots.old.items }
     requires numbered { length slots.old.items < 2 ^ 32 }
-    ensures filled { OnOk result (slots_of slots.new.items ≡ filled mark.now (slots_of slots.old.items) head (operation_of test)) }
+    ensures filled { OnOk result (slots_of slots.new.items
+        ≡ filled mark.now (slots_of slots.old.items) head (operation_of test)) }
     ensures numbered { OnOk result (length slots.new.items < 2 ^ 32) }
 {
     match mark {
@@ -65,8 +69,8 @@ fn fill(
     }
 }
 
-/// Lays the statements in front of the node `next`; `break` and `continue` lead to `out` and `again`. Answers the node
-/// at which the statements begin.
+/// Lays the statements in front of the node `next`; `break` and `continue` lead to `out` and
+/// `again`. Answers the node at which the statements begin.
 #[cycle(laying)]
 pub(crate) fn lay(
     alloc: Global,
@@ -77,7 +81,8 @@ pub(crate) fn lay(
     again: u32,
 ) -> Result<u32, AllocError>
     requires { length slots.old.items < 2 ^ 32 }
-    ensures laid { IfOk result (λ node. layout (slots_of slots.new.items) node ≡ lay (statements_of stmts.now) (slots_of slots.old.items) next out again) }
+    ensures laid { IfOk result (λ node. layout (slots_of slots.new.items) node
+        ≡ lay (statements_of stmts.now) (slots_of slots.old.items) next out again) }
     ensures numbered { OnOk result (length slots.new.items < 2 ^ 32) }
 {
     let mut node = next;
@@ -100,7 +105,8 @@ fn lay_one(
     again: u32,
 ) -> Result<u32, AllocError>
     requires { length slots.old.items < 2 ^ 32 }
-    ensures laid { IfOk result (λ node. Lays (put_in_front stmt.now) out again (layout (slots_of slots.old.items) next) (layout (slots_of slots.new.items) node)) }
+    ensures laid { IfOk result (λ node. Lays (put_in_front stmt.now) out again
+        (layout (slots_of slots.old.items) next) (layout (slots_of slots.new.items) node)) }
     ensures numbered { OnOk result (length slots.new.items < 2 ^ 32) }
 {
     match stmt {

@@ -1,8 +1,9 @@
 //! The nodes of a graph.
 use c_ast::Expr;
 
-/// What a node does, and the nodes that may come next. `next`, `yes` and `no` are below the number of the graph's nodes,
-/// and `var` is below the number of its variables, as are those that its expressions read.
+/// What a node does, and the nodes that may come next. `next`, `yes` and `no` are below the number
+/// of the graph's nodes, and `var` is below the number of its variables, as are those that its
+/// expressions read.
 #[derive(Debug, Drop)]
 pub enum Op {
     /// The variable with this number takes the value.

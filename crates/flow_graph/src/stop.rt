@@ -9,7 +9,8 @@ use c_ast::{Func, Place};
 use sqlite_items::Items;
 use std::alloc::{AllocError, Global};
 
-/// A mark, the node at which a run goes on from it, and the variables in scope there, by rising number.
+/// A mark, the node at which a run goes on from it, and the variables in scope there, by rising
+/// number.
 #[derive(Debug, Drop)]
 pub struct Stop {
     pub mark: u32,
@@ -38,7 +39,8 @@ fn insert(stops: &mut Vec<Stop>, stop: Stop) -> Result<(), AllocError>
 /// What the graph with these nodes knows of its marks.
 pub(crate) fn stops_of(alloc: Global, func: &Func, ops: &[Op]) -> Result<Vec<Stop>, AllocError>
     requires { MarksOf (program_of func.now) ops.now }
-    ensures { IfOk result (λ stops. AreStops (program_of func.now) ops.now (length ops.now) stops.items) }
+    ensures { IfOk result (λ stops.
+        AreStops (program_of func.now) ops.now (length ops.now) stops.items) }
 {
     let mut stops = Vec::new(alloc);
     for op in ops {

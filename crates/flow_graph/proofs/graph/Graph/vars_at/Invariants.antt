@@ -1,5 +1,5 @@
 use Rattle.c_ast.specs.Step.{first_variables}
-use Rattle.c_ast.proofs.InScope.{ListsVariables}
+use Rattle.flow_graph.proofs.Listing.{ListsVariables}
 use Rattle.flow_graph.proofs.graph.Graph.vars_at.Given as goal
 
 abbrev pub invariant-loop-x : goal.invariant-loop-x
