@@ -8,17 +8,23 @@
 //! them.
 #![tactic(auto)]
 
-mod condition;
+mod fault;
+
+// What is known at a place of a file.
+mod marks;
+mod resolver;
+mod table;
+
+// What is gone over in the order of the source.
 mod declaration;
 mod divisor;
 mod expression;
-mod fault;
-mod law;
 mod loops;
-mod marks;
-mod resolver;
 mod statement;
-mod table;
+
+// The answers, and laws of them.
+mod condition;
+mod law;
 #[cfg(test)]
 mod tests;
 mod unit;

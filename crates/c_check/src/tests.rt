@@ -193,52 +193,83 @@ fn faults_are_found(rt: HostRuntime) -> Result<(), Fail> {
     Ok(())
 }
 
+/// What stands at the right of a division.
+#[derive(Clone, Copy)]
+enum Right {
+    /// `-(-(+3))`
+    Three,
+    /// `-3`
+    Negative,
+    /// `0`
+    Zero,
+    /// `-0`
+    MinusZero,
+    /// `!0`
+    NotZero,
+    /// `a0`, which stands at the left too.
+    Same,
+    /// `a1`
+    Other,
+}
+
+fn right_operand(alloc: Global, right: Right) -> Result<RawExpr, AllocError>
+    ensures { IfOk result (λ made. HasNaturalConstants (raw_expression_of made)) }
+{
+    match right {
+        Right::Three => {
+            let positive = signed(alloc, UnOp::Plus, RawExpr::Num(3))?;
+            let negative = signed(alloc, UnOp::Minus, positive)?;
+            signed(alloc, UnOp::Minus, negative)
+        }
+        Right::Negative => signed(alloc, UnOp::Minus, RawExpr::Num(3)),
+        Right::Zero => Ok(RawExpr::Num(0)),
+        Right::MinusZero => signed(alloc, UnOp::Minus, RawExpr::Num(0)),
+        Right::NotZero => signed(alloc, UnOp::Not, RawExpr::Num(0)),
+        Right::Same => Ok(RawExpr::Var(name(alloc, "a0")?, 1)),
+        Right::Other => Ok(RawExpr::Var(name(alloc, "a1")?, 2)),
+    }
+}
+
+/// Divisions of `a0`, in conditions on functions with so many parameters.
+const DIVISIONS: [(u32, BinOp, Right, &str); 9] = [
+    (
+        1,
+        BinOp::Div,
+        Right::Three,
+        "Bin(Div, Boxed { inner: Var(0) }, Boxed { inner: Num(3) })",
+    ),
+    (
+        1,
+        BinOp::Div,
+        Right::Negative,
+        "Un(Minus, Boxed { inner: Bin(Div, Boxed { inner: Var(0) }, Boxed { inner: Num(3) }) })",
+    ),
+    (
+        1,
+        BinOp::Rem,
+        Right::Negative,
+        "Bin(Rem, Boxed { inner: Var(0) }, Boxed { inner: Num(3) })",
+    ),
+    (1, BinOp::Div, Right::Zero, "Divisor { line: 7 }"),
+    (1, BinOp::Rem, Right::MinusZero, "Divisor { line: 7 }"),
+    (1, BinOp::Div, Right::NotZero, "Divisor { line: 7 }"),
+    (1, BinOp::Div, Right::Same, "Divisor { line: 7 }"),
+    (1, BinOp::Rem, Right::Other, "Divisor { line: 7 }"),
+    (
+        0,
+        BinOp::Div,
+        Right::Zero,
+        "Undeclared { name: Name(\"a0\"), line: 1 }",
+    ),
+];
+
 #[test]
 fn divisors_are_constants(rt: HostRuntime) -> Result<(), Fail> {
     let alloc = rt.alloc();
     one_condition();
-    let three = signed(alloc, UnOp::Plus, RawExpr::Num(3))?;
-    let minus_three = signed(alloc, UnOp::Minus, RawExpr::Num(3))?;
-    let negative = signed(alloc, UnOp::Minus, RawExpr::Num(3))?;
-    let opposite = signed(alloc, UnOp::Minus, signed(alloc, UnOp::Minus, three)?)?;
-    let minus_zero = signed(alloc, UnOp::Minus, RawExpr::Num(0))?;
-    let not_zero = signed(alloc, UnOp::Not, RawExpr::Num(0))?;
-    let a0 = RawExpr::Var(name(alloc, "a0")?, 1);
-    let other = RawExpr::Var(name(alloc, "a1")?, 2);
-    let rows = [
-        (
-            divided(alloc, 1, BinOp::Div, opposite)?,
-            "Bin(Div, Var(0), Num(3))",
-        ),
-        (
-            divided(alloc, 1, BinOp::Div, minus_three)?,
-            "Un(Minus, Bin(Div, Var(0), Num(3)))",
-        ),
-        (
-            divided(alloc, 1, BinOp::Rem, negative)?,
-            "Bin(Rem, Var(0), Num(3))",
-        ),
-        (
-            divided(alloc, 1, BinOp::Div, RawExpr::Num(0))?,
-            "Divisor { line: 7 }",
-        ),
-        (
-            divided(alloc, 1, BinOp::Rem, minus_zero)?,
-            "Divisor { line: 7 }",
-        ),
-        (
-            divided(alloc, 1, BinOp::Div, not_zero)?,
-            "Divisor { line: 7 }",
-        ),
-        (divided(alloc, 1, BinOp::Div, a0)?, "Divisor { line: 7 }"),
-        (divided(alloc, 1, BinOp::Rem, other)?, "Divisor { line: 7 }"),
-        (
-            divided(alloc, 0, BinOp::Div, RawExpr::Num(0))?,
-            "Undeclared { name: Name(\"a0\"), line: 1 }",
-        ),
-        (condition(alloc, 0, RawExpr::Num(1))?, "Num(1)"),
-    ];
-    for (text, want) in rows {
+    for (count, op, right, want) in DIVISIONS {
+        let divisor = right_operand(alloc, right)?;
+        let text = divided(alloc, count, op, divisor)?;
         assert_eq!(rt; text.as_str(), want);
     }
     Ok(())
