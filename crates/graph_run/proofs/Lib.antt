@@ -1,3 +1,5 @@
-pub mod Narrowness
+pub mod Fitting
 pub mod Running
 pub mod Judging
+pub mod Tracing
+pub mod Laws

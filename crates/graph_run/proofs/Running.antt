@@ -10,11 +10,10 @@ use Rattle.c_ast.specs.declared.trace.Outcome.{Outcome}
 use Rattle.c_ast.specs.declared.trace.Outcome.TheVariants as outcome
 use Rattle.c_ast.specs.declared.place.Place.TheVariants as place
 use Rattle.c_ast.specs.Value.{eval, is_nonzero}
-use Rattle.c_ast.specs.FitsRun.{fits_run}
+use Rattle.c_ast.specs.FitsRun.{FitsRun, evaluates_fitting}
 use Rattle.c_ast.specs.Step.{first_variables, spread}
-use Rattle.c_ast.specs.Shown.{evaluates_fitting}
 use Rattle.c_ast.specs.Outcome.{with_first, returned}
-use Rattle.c_ast.proofs.Lengths.{length-spread}
+use Rattle.c_ast.proofs.Laws.{spread_has_length}
 use Rattle.c_ast.specs.Judged.{at_most}
 use Rattle.flow_graph.specs.declared.op.Op.{Op}
 use Rattle.flow_graph.specs.Operation.{Operation, Set, Branch, Mark, Return, operation_of}
@@ -26,8 +25,8 @@ use Rattle.flow_graph.specs.Judged.{IsGraphJudged}
 use Rattle.graph_run.specs.declared.step.Next.{Next}
 use Rattle.graph_run.specs.declared.step.Next.TheVariants as next
 use Rattle.graph_run.specs.Step.{VariablesAre, TakesStep}
-use Rattle.graph_run.specs.Answers.{AreNarrow, IsNarrow}
-use Rattle.graph_run.proofs.Narrowness.{value_narrow, set_narrow, spread_narrow, values_narrow}
+use Rattle.graph_run.specs.Answers.{AllFitRun, TraceFitsRun}
+use Rattle.graph_run.proofs.Fitting.{value_fits, set_fits, spread_fits, values_fit}
 
 -- ---- the events in front of what comes of the rest
 
@@ -83,15 +82,15 @@ variables_are at count vars node (Branch e n m) fits = fits.0
 variables_are at count vars node (Mark k n) fits = tt
 variables_are at count vars node (Return e) fits = fits
 
--- a step to another node, with an environment as long and as narrow
+-- a step to another node, with an environment as long, whose values fit as well
 record Goes (at : ℕ → Option Operation) (count : ℕ) (op : Operation) (node : ℕ) (env : List ℤ) (after : ℕ) (new : List ℤ) : Type 0 where
   below : after < count
   nearer : rank_of (at after) after < rank_of (Some op) node
   size : length new ≡ length env
-  narrow : AreNarrow new
+  values : AllFitRun new
 
-step_goes : (at : ℕ → Option Operation) (count vars node after : ℕ) (op : Operation) (env new : List ℤ) → Fits at count vars node op → AreNarrow env → evaluates_fitting (operand op) env ≡ true → turn op env ≡ graph.Goes after new → Goes at count op node env after new
-step_goes at count vars node after (Set x e n) env new fits narrow holds is =
+step_goes : (at : ℕ → Option Operation) (count vars node after : ℕ) (op : Operation) (env new : List ℤ) → Fits at count vars node op → AllFitRun env → evaluates_fitting (operand op) env ≡ true → turn op env ≡ graph.Goes after new → Goes at count op node env after new
+step_goes at count vars node after (Set x e n) env new fits values holds is =
     let after_is : n ≡ after = cc in
     let new_is : slice_set env x (eval e env) ≡ new = cc in
     let leads = subst (Leads at count node) after_is fits.2 in
@@ -99,19 +98,19 @@ step_goes at count vars node after (Set x e n) env new fits narrow holds is =
       below = leads.0;
       nearer = rank_falls at count node after leads;
       size = ap length (sym new_is) ∙ length-set env x (eval e env);
-      narrow = subst AreNarrow new_is (set_narrow env x (eval e env) narrow (value_narrow e env holds));
+      values = subst AllFitRun new_is (set_fits env x (eval e env) values (value_fits e env holds));
     }
-step_goes at count vars node after (Branch e n m) env new fits narrow holds is =
+step_goes at count vars node after (Branch e n m) env new fits values holds is =
     let after_is : cond (is_nonzero (eval e env)) n m ≡ after = cc in
     let new_is : env ≡ new = cc in
     let leads = subst (Leads at count node) after_is (on (is_nonzero (eval e env)) fits.1 fits.2) in
-    record { below = leads.0; nearer = rank_falls at count node after leads; size = ap length (sym new_is); narrow = subst AreNarrow new_is narrow }
+    record { below = leads.0; nearer = rank_falls at count node after leads; size = ap length (sym new_is); values = subst AllFitRun new_is values }
   where
     on : (t : Bool) → Leads at count node n → Leads at count node m → Leads at count node (cond t n m)
     on true p q = p
     on false p q = q
-step_goes at count vars node after (Mark k n) env new fits narrow holds is = absurd cc
-step_goes at count vars node after (Return e) env new fits narrow holds is = absurd cc
+step_goes at count vars node after (Mark k n) env new fits values holds is = absurd cc
+step_goes at count vars node after (Return e) env new fits values holds is = absurd cc
 
 record Passes (count : ℕ) (op : Operation) (env : List ℤ) (mark after : ℕ) (new : List ℤ) : Type 0 where
   op_is : op ≡ Mark mark after
@@ -127,11 +126,11 @@ step_passes at count vars node mark after (Mark k n) env new fits is =
     record { op_is = ap (λ (z : ℕ). Mark z n) mark_is ∙ ap (Mark mark) after_is; env_is = (cc); below = subst (λ (z : ℕ). z < count) after_is fits }
 step_passes at count vars node mark after (Return e) env new fits is = absurd cc
 
-result_narrow : (op : Operation) (env : List ℤ) (value : ℤ) → evaluates_fitting (operand op) env ≡ true → turn op env ≡ graph.Ends value → fits_run value ≡ true
-result_narrow (Set x e n) env value holds is = absurd cc
-result_narrow (Branch e n m) env value holds is = absurd cc
-result_narrow (Mark k n) env value holds is = absurd cc
-result_narrow (Return e) env value holds is = let same : eval e env ≡ value = cc in subst (λ (v : ℤ). fits_run v ≡ true) same (value_narrow e env holds)
+result_fits : (op : Operation) (env : List ℤ) (value : ℤ) → evaluates_fitting (operand op) env ≡ true → turn op env ≡ graph.Ends value → FitsRun value
+result_fits (Set x e n) env value holds is = absurd cc
+result_fits (Branch e n m) env value holds is = absurd cc
+result_fits (Mark k n) env value holds is = absurd cc
+result_fits (Return e) env value holds is = let same : eval e env ≡ value = cc in subst FitsRun same (value_fits e env holds)
 
 -- ---- the rest of a run
 
@@ -140,8 +139,8 @@ result_narrow (Return e) env value holds is = let same : eval e env ≡ value = 
 pub record Runs (g : FlowGraph) (inputs : List ℤ) (limit left : ℕ) (events : List Event) (node : ℕ) (env : List ℤ) : Type 0 where
   pub below : node < length g.ops
   pub size : length env ≡ g.vars
-  pub narrow : AreNarrow env
-  pub passed : All (λ event. AreNarrow event.values) events
+  pub values : AllFitRun env
+  pub passed : All (λ event. AllFitRun event.values) events
   pub within : left ≤ limit
   pub rest : (steps : ℕ) (o : Option Outcome) (whole : Outcome) → seen_from evaluates_fitting (Some outcome.Wide) (at_most limit) returned g steps (limit - left) node env ≡ o
       → resumed events o ≡ Some whole → IsGraphJudged g inputs limit whole
@@ -149,13 +148,13 @@ pub record Runs (g : FlowGraph) (inputs : List ℤ) (limit left : ℕ) (events :
 abbrev pub measure : FlowGraph → ℕ → ℕ → ℕ
 measure g left node = left * suc (length g.ops) + rank_of (operation_at g node) node
 
-pub begins : (g : FlowGraph) (inputs env : List ℤ) (limit node : ℕ) → length inputs ≡ g.params → AreNarrow inputs → env ≡ spread (first_variables (length inputs)) g.vars inputs → node ≡ g.entry → node < length g.ops → Runs g inputs limit limit [] node env
-begins g inputs env limit node arity narrow env_is node_is below =
+pub begins : (g : FlowGraph) (inputs env : List ℤ) (limit node : ℕ) → length inputs ≡ g.params → AllFitRun inputs → env ≡ spread (first_variables (length inputs)) g.vars inputs → node ≡ g.entry → node < length g.ops → Runs g inputs limit limit [] node env
+begins g inputs env limit node arity values env_is node_is below =
     let start : env ≡ spread (first_variables g.params) g.vars inputs = env_is ∙ ap (λ (n : ℕ). spread (first_variables n) g.vars inputs) arity in
     record {
       below = below;
-      size = ap length start ∙ length-spread (first_variables g.params) g.vars inputs;
-      narrow = subst AreNarrow (sym start) (spread_narrow (first_variables g.params) 0 g.vars inputs narrow);
+      size = ap length start ∙ spread_has_length (first_variables g.params) g.vars inputs;
+      values = subst AllFitRun (sym start) (spread_fits (first_variables g.params) 0 g.vars inputs values);
       passed = λ k d below. absurd (omega arith);
       within = omega arith;
       rest = λ steps o whole seen is. record {
@@ -188,8 +187,8 @@ module _ {g : FlowGraph} {inputs : List ℤ} {limit left : ℕ} {events : List E
   pub step_ready : VariablesAre (length env) op
   step_ready = subst (λ (n : ℕ). VariablesAre n op) (sym r.size) (variables_are (operation_at g) (length g.ops) g.vars node op fits)
 
-  seen_narrow : (n m : ℕ) (t : Turn) → evaluates_fitting (operand op) env ≡ true → turn op env ≡ t → S (suc n) m node env ≡ T n m t
-  seen_narrow n m t holds is =
+  seen_fitting : (n m : ℕ) (t : Turn) → evaluates_fitting (operand op) env ≡ true → turn op env ≡ t → S (suc n) m node env ≡ T n m t
+  seen_fitting n m t holds is =
       ap (λ (o : Option Operation). seen_at evaluates_fitting (Some outcome.Wide) (at_most limit) returned g (S n) m o env) here ∙ ap (λ (b : Bool). cond b (T n m (turn op env)) (Some outcome.Wide)) holds ∙ ap (T n m) is
 
   seen_wide : (n m : ℕ) → evaluates_fitting (operand op) env ≡ false → S (suc n) m node env ≡ Some outcome.Wide
@@ -201,16 +200,16 @@ module _ {g : FlowGraph} {inputs : List ℤ} {limit left : ℕ} {events : List E
     going_taken = subst (λ (n : Next). TakesStep op env n new) is taken
 
     goes_on : Goes (operation_at g) (length g.ops) op node env after new
-    goes_on = step_goes (operation_at g) (length g.ops) g.vars node after op env new fits r.narrow going_taken.0 going_taken.1
+    goes_on = step_goes (operation_at g) (length g.ops) g.vars node after op env new fits r.values going_taken.0 going_taken.1
 
     pub goes : Runs g inputs limit left events after new
     goes = record {
       below = goes_on.below;
       size = goes_on.size ∙ r.size;
-      narrow = goes_on.narrow;
+      values = goes_on.values;
       passed = r.passed;
       within = r.within;
-      rest = λ steps o whole seen whole_is. r.rest (suc steps) o whole (seen_narrow steps (limit - left) (graph.Goes after new) going_taken.0 going_taken.1 ∙ seen) whole_is;
+      rest = λ steps o whole seen whole_is. r.rest (suc steps) o whole (seen_fitting steps (limit - left) (graph.Goes after new) going_taken.0 going_taken.1 ∙ seen) whole_is;
     }
 
     pub goes_nearer : measure g left after < measure g left node
@@ -224,7 +223,7 @@ module _ {g : FlowGraph} {inputs : List ℤ} {limit left : ℕ} {events : List E
     passing = step_passes (operation_at g) (length g.ops) g.vars node mark after op env new fits passing_taken.1
 
     seen_pass : (n m : ℕ) → S (suc n) m node env ≡ at_most limit m mark (values_of (variables_at g (place.Mark mark)) new) (S n (suc m) after new)
-    seen_pass n m = seen_narrow n m (graph.Passes mark after new) passing_taken.0 passing_taken.1
+    seen_pass n m = seen_fitting n m (graph.Passes mark after new) passing_taken.0 passing_taken.1
 
     pub has_place : HasPlace g (place.Mark mark)
     has_place = let stop = formed.marks node mark after (here ∙ ap Some passing.op_is) in ap (λ o. is_some o) stop.found
@@ -254,18 +253,18 @@ module _ {g : FlowGraph} {inputs : List ℤ} {limit left : ℕ} {events : List E
           ∙ ap (λ (b : Bool). cond b (with_first (record { mark = mark; values = values_of (variables_at g (place.Mark mark)) new }) (S n (suc (limit - left)) after new)) (Some outcome.CutOff)) under
           ∙ ap (λ (e : Event). with_first e (S n (suc (limit - left)) after new)) (sym event_is) ∙ ap (λ (m : ℕ). with_first event (S n m after new)) (sym later)
 
-      new_narrow : AreNarrow new
-      new_narrow = subst AreNarrow passing.env_is r.narrow
+      new_fits : AllFitRun new
+      new_fits = subst AllFitRun passing.env_is r.values
 
-      event_narrow : AreNarrow event.values
-      event_narrow = subst (λ (e : Event). AreNarrow e.values) (sym event_is) (values_narrow (variables_at g (place.Mark mark)) new new_narrow)
+      event_fits : AllFitRun event.values
+      event_fits = subst (λ (e : Event). AllFitRun e.values) (sym event_is) (values_fit (variables_at g (place.Mark mark)) new new_fits)
 
       pub passes : Runs g inputs limit left' (events ++ event ∷ []) after new
       passes = record {
         below = passing.below;
         size = ap length (sym passing.env_is) ∙ r.size;
-        narrow = new_narrow;
-        passed = All-append (λ (e : Event). AreNarrow e.values) events (event ∷ []) r.passed (All-cons (λ (e : Event). AreNarrow e.values) event [] event_narrow (λ k d below. absurd (omega arith)));
+        values = new_fits;
+        passed = All-append (λ (e : Event). AllFitRun e.values) events (event ∷ []) r.passed (All-cons (λ (e : Event). AllFitRun e.values) event [] event_fits (λ k d below. absurd (omega arith)));
         within = omega (arith, r.within);
         rest = λ steps o whole seen whole_is. r.rest (suc steps) (with_first event o) whole (seen_event steps ∙ ap (with_first event) seen) (sym (resumed-append events event o) ∙ whole_is);
       }
@@ -281,10 +280,10 @@ module _ {g : FlowGraph} {inputs : List ℤ} {limit left : ℕ} {events : List E
     ending_taken = subst (λ (n : Next). TakesStep op env n new) is taken
 
     pub ends : IsGraphJudged g inputs limit (outcome.Returned (record { events = events; result = value }))
-    ends = r.rest 1 (Some (returned value)) _ (seen_narrow 0 (limit - left) (graph.Ends value) ending_taken.0 ending_taken.1) (resumed-returned events value)
+    ends = r.rest 1 (Some (returned value)) _ (seen_fitting 0 (limit - left) (graph.Ends value) ending_taken.0 ending_taken.1) (resumed-returned events value)
 
-    pub ends_narrow : IsNarrow (record { events = events; result = value })
-    ends_narrow = record { events = r.passed; result = result_narrow op env value ending_taken.0 ending_taken.1 }
+    pub ends_fit : TraceFitsRun (record { events = events; result = value })
+    ends_fit = record { events = r.passed; result = result_fits op env value ending_taken.0 ending_taken.1 }
 
   pub meets_wide : (new : List ℤ) {result : Next} → result ≡ next.Wide → TakesStep op env result new → IsGraphJudged g inputs limit outcome.Wide
   meets_wide new is taken = r.rest 1 (Some outcome.Wide) outcome.Wide (seen_wide 0 (limit - left) (subst (λ (n : Next). TakesStep op env n new) is taken)) (resumed-Wide events)

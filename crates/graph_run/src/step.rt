@@ -4,15 +4,15 @@ ghost use Rattle.c_ast.specs.Value.{is_nonzero};
 ghost use Rattle.c_ast.specs.declared.place.Place.TheVariants as place;
 ghost use Rattle.flow_graph.specs.Operation.{operation_of};
 ghost use Rattle.flow_graph.specs.FlowGraph.{variables_at, HasPlace};
-ghost use Rattle.flow_graph.specs.Run.{values_of};
-ghost use Rattle.graph_run.specs.Step.{VariablesAre, TakesStep};
+ghost use Rattle.graph_run.specs.Step.{VariablesAre, TakesStep, event_of};
 
-use c_ast::{Event, Place, value_of};
+use c_ast::{Event, Place, is_nonzero, value_of};
 use flow_graph::{Graph, Op};
 use sqlite_items::Items;
 use std::alloc::{AllocError, Global};
 
-/// What a step comes to: the run goes on at a node, passes a mark, or ends with a result, or a wide value was met.
+/// What a step comes to: the run goes on at a node, passes a mark, or ends with a result, or a value
+/// of 2^100 or more in size was met.
 pub(crate) enum Next {
     Goes(u32),
     Passes { mark: u32, next: u32 },
@@ -20,10 +20,11 @@ pub(crate) enum Next {
     Wide,
 }
 
+/// The node that follows a condition with this value.
 fn chosen(value: i128, first: u32, second: u32) -> u32
     ensures { result ≡ (if is_nonzero value then first else second) }
 {
-    if value != 0 { first } else { second }
+    if is_nonzero(value) { first } else { second }
 }
 
 /// A step from a node, which may change the values of the variables.
@@ -65,7 +66,7 @@ pub(crate) fn event(
 ) -> Result<Event, AllocError>
     requires place { HasPlace graph.now (place.Mark mark) }
     requires variables { All (λ x. x < length environment.now) (variables_at graph.now (place.Mark mark)) }
-    ensures { IfOk result (λ event. event ≡ record { mark = mark; values = values_of (variables_at graph.now (place.Mark mark)) environment.now }) }
+    ensures { IfOk result (λ event. event ≡ event_of graph.now mark environment.now) }
 {
     let variables = graph.vars_at(alloc, Place::Mark(mark))?;
     let mut values = Items::new(alloc);

@@ -1,14 +1,16 @@
-//! A run that was worked out by hand, from the meaning of C's statements.
+//! Runs that were worked out by hand, from the meaning of C's statements and operators.
 ghost use Rattle.std.specs.Prelude.{◌≡◌, length, pos, IfOk, Some, true};
 ghost use Rattle.c_ast.specs.declared.expr.BinOp.TheVariants.{Add};
 ghost use Rattle.c_ast.specs.Tree as tree;
 ghost use Rattle.c_ast.specs.FitsRun.{fits_run};
 ghost use Rattle.c_ast.specs.View.{expression_of, statements_of};
 ghost use Rattle.c_ast.specs.Function.{program_of};
+ghost use Rattle.c_ast.specs.Step.{first_variables};
+ghost use Rattle.c_ast.specs.Formed.{IsOver};
 ghost use Rattle.c_ast.specs.Sums.{sums};
 
 use crate::{Skip, run};
-use c_ast::{BinOp, Expr, Func, Name, Place, Stmt, Trace, Var};
+use c_ast::{BinOp, Expr, Func, Name, Place, Stmt, Trace, UnOp, Var};
 use flow_graph::{Graph, build};
 use sqlite_items::{Boxed, Items};
 use std::alloc::{AllocError, Global};
@@ -30,7 +32,8 @@ fn var(x: u32) -> Expr
 }
 
 fn bin(alloc: Global, left: Expr, op: BinOp, right: Expr) -> Result<Expr, AllocError>
-    ensures { IfOk result (λ made. expression_of made ≡ tree.Bin op (expression_of left) (expression_of right)) }
+    ensures { IfOk result (λ made. expression_of made
+        ≡ tree.Bin op (expression_of left) (expression_of right)) }
 {
     let left = Boxed::new(alloc, left)?;
     let right = Boxed::new(alloc, right)?;
@@ -64,7 +67,8 @@ fn variables(alloc: Global) -> Result<Vec<Var>, AllocError>
 /// s = s + i; i = i + 1;
 fn turn(alloc: Global) -> Result<Items<Stmt>, AllocError>
     ensures { IfOk result (λ stmts. statements_of stmts
-        ≡ tree.Set 2 (tree.Bin Add (tree.Var 2) (tree.Var 1)) (tree.Set 1 (tree.Bin Add (tree.Var 1) (tree.Num (pos 1))) tree.Nil)) }
+        ≡ tree.Set 2 (tree.Bin Add (tree.Var 2) (tree.Var 1))
+        (tree.Set 1 (tree.Bin Add (tree.Var 1) (tree.Num (pos 1))) tree.Nil)) }
 {
     let mut stmts = Items::new(alloc);
     stmts.push(Stmt::Set(2, bin(alloc, var(2), BinOp::Add, var(1))?))?;
@@ -92,7 +96,11 @@ fn body(alloc: Global) -> Result<Vec<Stmt>, AllocError>
     Ok(stmts)
 }
 
-/// int f(int n) { int i = 0; int s = 0; while (__mark(42) & (i < n)) { s = s + i; i = i + 1; } return s; }
+/// int f(int n) {
+///     int i = 0; int s = 0;
+///     while (__mark(42) & (i < n)) { s = s + i; i = i + 1; }
+///     return s;
+/// }
 fn sum(alloc: Global) -> Result<Func, AllocError>
     ensures { IfOk result (λ func. program_of func ≡ sums) }
 {
@@ -101,8 +109,9 @@ fn sum(alloc: Global) -> Result<Func, AllocError>
     Ok(Func::new(name(alloc, "f")?, 1, vars, body))
 }
 
-/// int f(int a) { return a + a; }
-fn double(alloc: Global) -> Result<Func, AllocError>
+/// int f(int a) { return value; }
+fn returning(alloc: Global, value: Expr) -> Result<Func, AllocError>
+    requires { IsOver (first_variables 1) (expression_of value) }
     ensures { IfOk result (λ func. (program_of func).params ≡ 1) }
 {
     let mut vars = Vec::new(alloc);
@@ -111,8 +120,35 @@ fn double(alloc: Global) -> Result<Func, AllocError>
         line: 1,
     })?;
     let mut body = Vec::new(alloc);
-    body.push(Stmt::Return(bin(alloc, var(0), BinOp::Add, var(0))?))?;
+    body.push(Stmt::Return(value))?;
     Ok(Func::new(name(alloc, "f")?, 1, vars, body))
+}
+
+/// What a function of the parameter `a` returns.
+#[derive(Clone, Copy, Debug)]
+enum Formula {
+    /// a + a
+    Double,
+    /// a / -3, whose checked tree is -(a / 3)
+    Third,
+    /// a % 3, and the checked tree of a % -3
+    Rest,
+    /// a % 7
+    RestOfSeven,
+}
+
+fn value(alloc: Global, which: Formula) -> Result<Expr, AllocError>
+    ensures { IfOk result (λ made. IsOver (first_variables 1) (expression_of made)) }
+{
+    match which {
+        Formula::Double => bin(alloc, var(0), BinOp::Add, var(0)),
+        Formula::Third => {
+            let third = bin(alloc, var(0), BinOp::Div, num(3))?;
+            Ok(Expr::Un(UnOp::Minus, Boxed::new(alloc, third)?))
+        }
+        Formula::Rest => bin(alloc, var(0), BinOp::Rem, num(3)),
+        Formula::RestOfSeven => bin(alloc, var(0), BinOp::Rem, num(7)),
+    }
 }
 
 /// The events of a trace and its result, or why there is none.
@@ -151,11 +187,12 @@ fn run_sum(alloc: Global, input: i128, marks: u32) -> Result<String, AllocError>
     shown(alloc, &run(alloc, &graph, &[input], marks))
 }
 
-/// What comes of a run of the double.
-fn run_double(alloc: Global, input: i128) -> Result<String, AllocError>
+/// What comes of a run of a function that returns the value.
+fn run_value(alloc: Global, which: Formula, input: i128) -> Result<String, AllocError>
     requires { fits_run input ≡ true }
 {
-    let graph = graph_of(alloc, &double(alloc)?)?;
+    let func = returning(alloc, value(alloc, which)?)?;
+    let graph = graph_of(alloc, &func)?;
     shown(alloc, &run(alloc, &graph, &[input], 0))
 }
 
@@ -195,10 +232,19 @@ fn a_run_passes_its_marks(rt: HostRuntime) -> Result<(), Fail> {
 }
 
 #[test]
-fn a_wide_value_ends_a_run(rt: HostRuntime) -> Result<(), Fail> {
-    let got = run_double(rt.alloc(), HALF - 1)?;
-    assert_eq!(rt; got.as_str(), "1267650600228229401496703205374");
-    let got = run_double(rt.alloc(), HALF)?;
-    assert_eq!(rt; got.as_str(), "Wide");
+fn values_are_those_of_c(rt: HostRuntime) -> Result<(), Fail> {
+    let rows = [
+        (Formula::Double, HALF - 1, "1267650600228229401496703205374"),
+        (Formula::Double, HALF, "Wide"),
+        (Formula::Third, 7, "-2"),
+        (Formula::Rest, 7, "1"),
+        (Formula::Rest, -1, "-1"),
+        // What the remainder is taken from is 2^100 - 1.
+        (Formula::RestOfSeven, HALF - 1 + HALF, "1"),
+    ];
+    for (which, input, want) in rows {
+        let got = run_value(rt.alloc(), which, input)?;
+        assert_eq!(rt; got.as_str(), want, "{which:?} {input}");
+    }
     Ok(())
 }

@@ -1,6 +1,7 @@
 pub mod Grid
 pub mod Words
 pub mod Inputting
-pub mod Narrowing
+pub mod Asking
 pub mod Answering
+pub mod Laws
 pub mod Samples

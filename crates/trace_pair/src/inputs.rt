@@ -44,7 +44,8 @@ fn grid_value(index: u32, parameter: u32) -> i128
 
 /// The values of all parameters at an index of the grid.
 fn grid_input(alloc: Global, index: u32, arity: u32) -> Result<Vec<i128>, AllocError>
-    ensures { IfOk result (λ values. values.items ≡ map (grid_value index) (range_with_len 0 arity)) }
+    ensures { IfOk result
+        (λ values. values.items ≡ map (grid_value index) (range_with_len 0 arity)) }
 {
     let mut values = Vec::new(alloc);
     for parameter in 0..arity {
@@ -61,7 +62,8 @@ fn word_value(word: u32) -> i128
 
 /// The values of all parameters at a later index.
 fn later_input(alloc: Global, seed: u64, index: u32, arity: u32) -> Result<Vec<i128>, AllocError>
-    ensures { IfOk result (λ values. values.items ≡ map word_value (words arity (generator_of seed index))) }
+    ensures { IfOk result
+        (λ values. values.items ≡ map word_value (words arity (generator_of seed index))) }
 {
     let mut generator = Lcg64Xsh32::new(seed, index as u64);
     let mut values = Vec::new(alloc);
@@ -71,10 +73,10 @@ fn later_input(alloc: Global, seed: u64, index: u32, arity: u32) -> Result<Vec<i
     Ok(values)
 }
 
-/// As many values as `arity`, one for each parameter in their order, each from -20 to 20; or want of memory. The first 5,
-/// 25 or 125 indexes, by the number of parameters, try all choices of 0, 1, 2, -1 and 7 for the first three, the first one
-/// changing fastest, with 0 for all others. Later ones take words of the generator with the settings' seed, on a stream
-/// of the index's own.
+/// As many values as `arity`, one for each parameter in their order, each from -20 to 20; or want
+/// of memory. The first 5, 25 or 125 indexes, by the number of parameters, try all choices of 0, 1,
+/// 2, -1 and 7 for the first three, the first one changing fastest, with 0 for all others. Later
+/// ones take words of the generator with the settings' seed, on a stream of the index's own.
 pub fn input(
     alloc: Global,
     settings: &Settings,

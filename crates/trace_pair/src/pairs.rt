@@ -1,16 +1,50 @@
-//! Pairs of runs.
-ghost use Rattle.std.specs.Prelude.{◌≡◌, ◌<◌, length, IfOk, IfErr};
+//! Pairs of runs on inputs that meet the condition.
+ghost use Rattle.std.specs.Prelude.{◌≡◌, ◌<◌, length, IfOk, IfErr, MatchOption};
 ghost use Rattle.c_ast.specs.Tree.{Program};
+ghost use Rattle.c_ast.specs.Value.{CanEvaluate};
+ghost use Rattle.c_ast.specs.View.{expression_of};
+ghost use Rattle.c_ast.specs.Comparison.{condition_of};
 ghost use Rattle.flow_graph.specs.Built.{IsGraphOf};
-ghost use Rattle.graph_run.specs.Answers.{AreNarrow};
-ghost use Rattle.trace_pair.specs.Pairs.{AnswersRun, AnswersPair, KeepsCause, AreGraphsOf};
+ghost use Rattle.graph_run.specs.Answers.{AllFitRun};
+ghost use Rattle.trace_pair.specs.Pairs.{Admits, KeepsOut, AnswersCondition, AnswersRun, AnswersPair, KeepsCause, AreGraphsOf};
 
 use crate::{PairRefused, Skipped, input};
-use c_ast::{Pair, Side, Subject, Trace};
+use c_ast::{Expr, Pair, Side, Subject, Trace, is_nonzero, value_of};
 use flow_graph::{Graph, build};
 use graph_run::{Skip, run};
 use sqlite_items::Items;
 use std::alloc::{AllocError, Global};
+
+/// Why the condition keeps these inputs out; `None` where it lets them through.
+fn kept_out(condition: &Expr, input: &[i128]) -> Option<Skip>
+    requires { CanEvaluate (length input.now) (expression_of condition.now) }
+    ensures { MatchOption result
+        (Admits (expression_of condition.now) input.now)
+        (KeepsOut (expression_of condition.now) input.now) }
+{
+    match value_of(condition, input) {
+        Some(value) if is_nonzero(value) => None,
+        Some(_) => Some(Skip::Unmet),
+        None => Some(Skip::Wide),
+    }
+}
+
+/// Asks the subject's condition, if there is one, of the inputs.
+fn admit(subject: &Subject, input: &[i128]) -> Result<(), PairRefused>
+    requires { length input.now ≡ subject.now.first.params }
+    ensures { AnswersCondition (condition_of subject.now) input.now result }
+{
+    let Some(condition) = subject.condition() else {
+        return Ok(());
+    };
+    match kept_out(condition, input) {
+        None => Ok(()),
+        Some(why) => Err(PairRefused::Skipped(Skipped {
+            side: Side::Pre,
+            why,
+        })),
+    }
+}
 
 /// The trace of the graph's function on this side, or what its run met first.
 fn trace_of(
@@ -21,7 +55,7 @@ fn trace_of(
     marks: u32,
 ) -> Result<Trace, PairRefused>
     requires arity { length input.now ≡ graph.now.params }
-    requires narrow { AreNarrow input.now }
+    requires fits { AllFitRun input.now }
     ensures { (f : Program) → IsGraphOf f graph.now → AnswersRun side marks f input.now result }
 {
     match run(alloc, graph, input, marks) {
@@ -51,9 +85,10 @@ impl Graphs {
     }
 }
 
-/// The runs of both functions on the sample's input, where both return after at most as many marks as the settings say
-/// and with narrow values. `graphs` are those of the subject, and `index` is below the settings' number of samples. Side
-/// A is judged first.
+/// The runs of both functions on the sample's input, where that meets the condition and both return
+/// after at most as many marks as the settings say and with values below 2^100 in size. `graphs`
+/// are those of the subject, and `index` is below the settings' number of samples. The condition is
+/// asked first, then side A is run, and then side B; what is met first is told.
 pub fn pair_on(
     alloc: Global,
     subject: &Subject,
@@ -67,6 +102,7 @@ pub fn pair_on(
 {
     let settings = subject.settings();
     let values = input(alloc, &settings, index, subject.first().params())?;
+    admit(subject, values.as_slice())?;
     let marks = settings.marks();
     let first = trace_of(alloc, Side::A, &graphs.first, values.as_slice(), marks)?;
     let second = trace_of(alloc, Side::B, &graphs.second, values.as_slice(), marks)?;

@@ -6,19 +6,23 @@ use c_ast::Side;
 use graph_run::Skip;
 use std::alloc::AllocError;
 
-/// The first side whose run has no trace, and why.
+/// What kept a sample from being a pair, and why. The condition on the inputs is asked first, then
+/// A is run, and then B.
 #[derive(Clone, Copy, Debug, PartialEq, Eq)]
 pub struct Skipped {
-    /// `A` where A's run has no trace, and `B` where A's has one and B's has none.
+    /// `Pre` where the condition keeps the input out, `A` where A's run has no trace, and `B` where
+    /// A's has one and B's has none.
     pub side: Side,
-    /// What the run met first, which is never want of memory.
+    /// What was met first, which is never want of memory: `Unmet` or `Wide` of the condition, and
+    /// `NotEnded` or `Wide` of a run.
     pub why: Skip,
 }
 
 /// Why a sample has no pair.
 #[derive(Clone, Copy, Debug, PartialEq, Eq)]
 pub enum PairRefused {
-    /// The run of one side has no trace, so the sample tells nothing.
+    /// The condition keeps the input out, or the run of one side has no trace, so the sample tells
+    /// nothing.
     Skipped(Skipped),
     /// There was no memory for a graph, the input or a run.
     Memory,

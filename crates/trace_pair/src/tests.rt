@@ -1,7 +1,8 @@
 //! Samples that were worked out by hand.
 ghost use Rattle.std.specs.Prelude.{◌≡◌, ◌<◌, IfOk};
-ghost use Rattle.c_ast.specs.View.{statements_of};
-ghost use Rattle.c_ast.specs.Formed.{IsProgram};
+ghost use Rattle.c_ast.specs.View.{expression_of, statements_of};
+ghost use Rattle.c_ast.specs.Step.{first_variables};
+ghost use Rattle.c_ast.specs.Formed.{IsProgram, IsOver};
 
 use crate::{PairRefused, input, pair};
 use c_ast::{BinOp, Expr, Func, Name, Pair, Settings, Stmt, Subject, UnOp, Var};
@@ -57,39 +58,48 @@ fn func(alloc: Global, body: Vec<Stmt>) -> Result<Func, AllocError>
     Ok(Func::new(name, 1, vars, body))
 }
 
-fn same(alloc: Global) -> Result<Func, AllocError>
+/// return value;
+fn returning(alloc: Global, value: Expr) -> Result<Func, AllocError>
+    requires { IsOver (first_variables 1) (expression_of value) }
     ensures { IfOk result (λ func. func.params ≡ 1) }
 {
-    let mut body = Vec::new(alloc);
-    body.push(Stmt::Return(Expr::Var(0)))?;
-    func(alloc, body)
-}
-
-fn opposite(alloc: Global) -> Result<Func, AllocError>
-    ensures { IfOk result (λ func. func.params ≡ 1) }
-{
-    let value = Expr::Un(UnOp::Minus, Boxed::new(alloc, Expr::Var(0))?);
     let mut body = Vec::new(alloc);
     body.push(Stmt::Return(value))?;
     func(alloc, body)
 }
 
-fn product(alloc: Global) -> Result<Func, AllocError>
-    ensures { IfOk result (λ func. func.params ≡ 1) }
+/// -a
+fn opposite(alloc: Global) -> Result<Expr, AllocError>
+    ensures { IfOk result (λ made. IsOver (first_variables 1) (expression_of made)) }
+{
+    Ok(Expr::Un(UnOp::Minus, Boxed::new(alloc, Expr::Var(0))?))
+}
+
+/// a * 9223372036854775807 * 9223372036854775807
+fn product(alloc: Global) -> Result<Expr, AllocError>
+    ensures { IfOk result (λ made. IsOver (first_variables 1) (expression_of made)) }
 {
     let once = Expr::Bin(
         BinOp::Mul,
         Boxed::new(alloc, Expr::Var(0))?,
         Boxed::new(alloc, Expr::Num(i64::MAX))?,
     );
-    let twice = Expr::Bin(
+    Ok(Expr::Bin(
         BinOp::Mul,
         Boxed::new(alloc, once)?,
         Boxed::new(alloc, Expr::Num(i64::MAX))?,
-    );
-    let mut body = Vec::new(alloc);
-    body.push(Stmt::Return(twice))?;
-    func(alloc, body)
+    ))
+}
+
+/// a > 0
+fn positive(alloc: Global) -> Result<Expr, AllocError>
+    ensures { IfOk result (λ made. IsOver (first_variables 1) (expression_of made)) }
+{
+    Ok(Expr::Bin(
+        BinOp::Greater,
+        Boxed::new(alloc, Expr::Var(0))?,
+        Boxed::new(alloc, Expr::Num(0))?,
+    ))
 }
 
 fn waiting(alloc: Global) -> Result<Func, AllocError>
@@ -111,11 +121,34 @@ fn func_of(alloc: Global, body: Body) -> Result<Func, AllocError>
     ensures { IfOk result (λ func. func.params ≡ 1) }
 {
     match body {
-        Body::Same => same(alloc),
-        Body::Opposite => opposite(alloc),
-        Body::Product => product(alloc),
+        Body::Same => returning(alloc, Expr::Var(0)),
+        Body::Opposite => returning(alloc, opposite(alloc)?),
+        Body::Product => returning(alloc, product(alloc)?),
         Body::Waiting => waiting(alloc),
     }
+}
+
+/// What the input is asked for.
+#[derive(Clone, Copy, Debug)]
+enum Asked {
+    Nothing,
+    /// a > 0
+    Positive,
+    /// a * 9223372036854775807 * 9223372036854775807
+    Product,
+}
+
+fn subject_of(alloc: Global, first: Body, second: Body, asked: Asked) -> Result<Subject, AllocError>
+    ensures { IfOk result (λ subject. subject.settings.samples ≡ 5) }
+{
+    let settings = Settings::new(5, 64, 400, 0).unwrap();
+    let (first, second) = (func_of(alloc, first)?, func_of(alloc, second)?);
+    let subject = match asked {
+        Asked::Nothing => return Ok(Subject::new(first, second, settings).unwrap()),
+        Asked::Positive => { Subject::with_condition(first, second, settings, positive(alloc)?) }
+        Asked::Product => Subject::with_condition(first, second, settings, product(alloc)?),
+    };
+    Ok(subject.unwrap())
 }
 
 /// The input and the results, or what was skipped.
@@ -135,12 +168,16 @@ fn shown(alloc: Global, answer: &Result<Pair, PairRefused>) -> Result<String, Al
 }
 
 /// What is answered of the sample of the two functions.
-fn answer(alloc: Global, first: Body, second: Body, index: u32) -> Result<String, AllocError>
+fn answer(
+    alloc: Global,
+    first: Body,
+    second: Body,
+    asked: Asked,
+    index: u32,
+) -> Result<String, AllocError>
     requires { index < 5 }
 {
-    let settings = Settings::new(5, 64, 400, 0).unwrap();
-    let (first, second) = (func_of(alloc, first)?, func_of(alloc, second)?);
-    let subject = Subject::new(first, second, settings).unwrap();
+    let subject = subject_of(alloc, first, second, asked)?;
     shown(alloc, &pair(alloc, &subject, index))
 }
 
@@ -151,11 +188,13 @@ fn samples_are_pairs_or_skipped(rt: HostRuntime) -> Result<(), Fail> {
         (
             Body::Same,
             Body::Opposite,
+            Asked::Nothing,
             ["0: 0 0", "1: 1 -1", "2: 2 -2", "-1: -1 1", "7: 7 -7"],
         ),
         (
             Body::Same,
             Body::Waiting,
+            Asked::Nothing,
             [
                 "0: 0 0",
                 "B NotEnded",
@@ -167,16 +206,35 @@ fn samples_are_pairs_or_skipped(rt: HostRuntime) -> Result<(), Fail> {
         (
             Body::Product,
             Body::Waiting,
+            Asked::Nothing,
             ["0: 0 0", "A Wide", "A Wide", "A Wide", "A Wide"],
         ),
+        (
+            Body::Same,
+            Body::Waiting,
+            Asked::Positive,
+            [
+                "Pre Unmet",
+                "B NotEnded",
+                "B NotEnded",
+                "Pre Unmet",
+                "B NotEnded",
+            ],
+        ),
+        (
+            Body::Waiting,
+            Body::Same,
+            Asked::Product,
+            ["Pre Unmet", "Pre Wide", "Pre Wide", "Pre Wide", "Pre Wide"],
+        ),
     ];
-    for (first, second, texts) in rows {
+    for (first, second, asked, texts) in rows {
         for index in 0..5 {
-            let got = answer(alloc, first, second, index)?;
+            let got = answer(alloc, first, second, asked, index)?;
             assert_eq!(rt;
                 got.as_str(),
                 texts[index as usize],
-                "{first:?} {second:?} {index}"
+                "{first:?} {second:?} {asked:?} {index}"
             );
         }
     }
