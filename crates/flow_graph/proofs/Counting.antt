@@ -55,8 +55,22 @@ filled_counts k (Some mark) old more slots e body out is =
     let test = Branch e body out in
     let first = Mark mark (length slots) in
     let new = set_open old (more ++ Some test ∷ []) (slots ++ Some test ∷ []) (Some first) (open_more old more slots (Some test) is) in (
-      omega (arith, ap (slot_marks k) new, ap (slot_marks k) is, marks_append k old (Some first ∷ (more ++ Some test ∷ [])), marks_append k more (Some test ∷ []), marks_append k old (None ∷ more)),
-      omega (arith, ap opens new, ap opens is, opens_append old (Some first ∷ (more ++ Some test ∷ [])), opens_append more (Some test ∷ []), opens_append old (None ∷ more)),
+      omega (
+        arith,
+        ap (slot_marks k) new,
+        ap (slot_marks k) is,
+        marks_append k old (Some first ∷ (more ++ Some test ∷ [])),
+        marks_append k more (Some test ∷ []),
+        marks_append k old (None ∷ more),
+      ),
+      omega (
+        arith,
+        ap opens new,
+        ap opens is,
+        opens_append old (Some first ∷ (more ++ Some test ∷ [])),
+        opens_append more (Some test ∷ []),
+        opens_append old (None ∷ more),
+      ),
     )
 
 pub lay_counts : (k : ℕ) (c : Statements) (slots : Slots) (m b t : ℕ) → Counts k slots (lay c slots m b t).slots (marks k c)

@@ -31,7 +31,11 @@ leads_more at more x count count' node next le h = (omega (arith, h.0), elim h.1
 pub fits_more : (at more : Table) → Extends at more → (count count' vars node : ℕ) (op : Operation) → count ≤ count' → Fits at count vars node op
     → Fits more count' vars node op
 fits_more at more x count count' vars node (Set y e next) le h = (h.0, h.1, leads_more at more x count count' node next le h.2)
-fits_more at more x count count' vars node (Branch e first second) le h = (h.0, leads_more at more x count count' node first le h.1, leads_more at more x count count' node second le h.2)
+fits_more at more x count count' vars node (Branch e first second) le h = (
+  h.0,
+  leads_more at more x count count' node first le h.1,
+  leads_more at more x count count' node second le h.2,
+)
 fits_more at more x count count' vars node (Mark k next) le h = omega (arith, h)
 fits_more at more x count count' vars node (Return e) le h = h
 
@@ -82,7 +86,13 @@ fill_fits : (vars : ℕ) (old more slots new : Slots) (first : Operation) → sl
     → SlotsFit vars slots → Fits (table_of new) (length new) vars (length old) first → SlotsFit vars new
 fill_fits vars old more slots new first is new_is extends fit first_fits = record {
   by = λ i op h.
-      let size : length slots ≤ length new = omega (arith, ap length is, ap length new_is, length-append old (None ∷ more), length-append old (Some first ∷ more)) in
+      let size : length slots ≤ length new = omega (
+        arith,
+        ap length is,
+        ap length new_is,
+        length-append old (None ∷ more),
+        length-append old (Some first ∷ more),
+      ) in
       elim (at_filled old more first i op (subst (λ (z : Slots). table_of z i ≡ Some op) new_is h)) [
         | inl p ↦ fits_more (table_of slots) (table_of new) extends (length slots)
             (length new) vars i op size (fit.by i op (subst (λ (z : Slots). table_of z i ≡ Some op) (sym is) p))
@@ -116,8 +126,11 @@ module _ (vars : ℕ) (old more slots : Slots) (e : Expression) (body out : ℕ)
       let extends = filled_extends None old more slots first is in
       let new_size : length (filled None slots (length old) first)
       ≡ length slots = omega (arith, ap length new_is, length-append old (Some first ∷ more), ap length is, length-append old (None ∷ more)) in
-      fill_fits vars old more slots (filled None slots (length old) first) first is new_is extends fit
-      (below, (omega (arith, new_size), inr (mark_more (table_of slots) _ extends body (begins passes))), (omega (arith, new_size, ap length is, length-append old (None ∷ more)), inl outside))
+      fill_fits vars old more slots (filled None slots (length old) first) first is new_is extends fit (
+        below,
+        (omega (arith, new_size), inr (mark_more (table_of slots) _ extends body (begins passes))),
+        (omega (arith, new_size, ap length is, length-append old (None ∷ more)), inl outside),
+      )
   test_fits (Some k) stmts passes begins =
       let last = Branch e body out in
       let first = Mark k (length slots) in
@@ -126,9 +139,16 @@ module _ (vars : ℕ) (old more slots : Slots) (e : Expression) (body out : ℕ)
       let new_is = set_open old (more ++ Some last ∷ []) longer (Some first) longer_is in
       let old_size : length slots ≡ length old + suc (length more) = ap length is ∙ length-append old (None ∷ more) in
       let new_size : length (filled (Some k) slots (length old) last)
-      ≡ suc (length slots) = omega (arith, ap length new_is, length-append old (Some first ∷ (more ++ Some last ∷ [])), length-append more (Some last ∷ []), old_size) in
+      ≡ suc (length slots) = omega (
+        arith,
+        ap length new_is,
+        length-append old (Some first ∷ (more ++ Some last ∷ [])),
+        length-append more (Some last ∷ []),
+        old_size,
+      ) in
       let longer_fits = op_fits vars slots last fit (below, (omega arith, inl inside), (omega (arith, old_size), inl (omega (arith, old_size)))) in
-      fill_fits vars old (more ++ Some last ∷ []) longer (filled (Some k) slots (length old) last) first longer_is new_is (filled_extends None old (more ++ Some last ∷ []) longer first longer_is) longer_fits (omega (arith, new_size))
+      fill_fits vars old (more ++ Some last ∷ []) longer (filled (Some k) slots (length old) last)
+      first longer_is new_is (filled_extends None old (more ++ Some last ∷ []) longer first longer_is) longer_fits (omega (arith, new_size))
 
 filled_length : (mark : Option ℕ) (slots : Slots) (i : ℕ) (test : Operation) → length slots ≤ length (filled mark slots i test)
 filled_length None slots i test = omega (arith, length-set slots i (Some test))
@@ -156,7 +176,11 @@ lay_fits tree.Nil vars s in_loop slots m b t below formed ready = record { fit =
 lay_fits (tree.Set x e c) vars s in_loop slots m b t below formed ready =
     let behind = lay c slots m b t in
     let h = lay_fits c vars (x ∷ s) in_loop slots m b t (set_stays_below vars x s formed.0 below) formed.2 ready in
-    added_lay_fits vars behind.slots (Set x e behind.node) h.fit (formed.0, set_can_evaluate (is_in s x) e vars s below formed.1, (omega (arith, h.within), inl h.within))
+    added_lay_fits vars behind.slots (Set x e behind.node) h.fit (
+      formed.0,
+      set_can_evaluate (is_in s x) e vars s below formed.1,
+      (omega (arith, h.within), inl h.within),
+    )
 lay_fits (tree.If e x y c) vars s in_loop slots m b t below formed ready =
     let behind = lay c slots m b t in
     let first = lay x behind.slots behind.node b t in
@@ -168,10 +192,24 @@ lay_fits (tree.If e x y c) vars s in_loop slots m b t below formed ready =
     let le = grows_length slots behind.slots g in
     let lex = grows_length behind.slots first.slots gx in
     let ley = grows_length first.slots second.slots gy in
-    let p = lay_fits x vars s in_loop behind.slots behind.node b t below formed.1 (record { fit = h.fit; next = h.within; out = omega (arith, le, ready.out); again = omega (arith, le, ready.again) }) in
-    let q = lay_fits y vars s in_loop first.slots behind.node b t below formed.2 (record { fit = p.fit; next = omega (arith, lex, h.within); out = omega (arith, le, lex, ready.out); again = omega (arith, le, lex, ready.again) }) in
+    let p = lay_fits x vars s in_loop behind.slots behind.node b t below formed.1 (record {
+      fit = h.fit;
+      next = h.within;
+      out = omega (arith, le, ready.out);
+      again = omega (arith, le, ready.again);
+    }) in
+    let q = lay_fits y vars s in_loop first.slots behind.node b t below formed.2 (record {
+      fit = p.fit;
+      next = omega (arith, lex, h.within);
+      out = omega (arith, le, lex, ready.out);
+      again = omega (arith, le, lex, ready.again);
+    }) in
     let down : first.node < length second.slots = omega (arith, ley, p.within) in
-    added_lay_fits vars second.slots (Branch e first.node second.node) q.fit (over_can_evaluate e vars s below formed.0, (omega (arith, down), inl down), (omega (arith, q.within), inl q.within))
+    added_lay_fits vars second.slots (Branch e first.node second.node) q.fit (
+      over_can_evaluate e vars s below formed.0,
+      (omega (arith, down), inl down),
+      (omega (arith, q.within), inl q.within),
+    )
 lay_fits (tree.Loop k e x y f c) vars s in_loop slots m b t below formed ready =
     let behind = lay c slots m b t in
     let head = added behind.slots None in
@@ -187,14 +225,25 @@ lay_fits (tree.Loop k e x y f c) vars s in_loop slots m b t below formed ready =
     let leh = length-append behind.slots (None ∷ []) in
     let ley = grows_length head.slots tail.slots gy in
     let lex = grows_length tail.slots inner.slots gx in
-    let q = lay_fits y vars s in_loop head.slots head.node b t below formed.2 (record { fit = open_fits vars behind.slots h.fit; next = omega (arith, leh); out = omega (arith, le, leh, ready.out); again = omega (arith, le, leh, ready.again) }) in
-    let p = lay_fits x vars s true tail.slots tail.node behind.node tail.node below formed.1 (record { fit = q.fit; next = q.within; out = omega (arith, h.within, leh, ley); again = q.within }) in
+    let q = lay_fits y vars s in_loop head.slots head.node b t below formed.2 (record {
+      fit = open_fits vars behind.slots h.fit;
+      next = omega (arith, leh);
+      out = omega (arith, le, leh, ready.out);
+      again = omega (arith, le, leh, ready.again);
+    }) in
+    let p = lay_fits x vars s true tail.slots tail.node behind.node tail.node below formed.1 (record {
+      fit = q.fit;
+      next = q.within;
+      out = omega (arith, h.within, leh, ley);
+      again = q.within;
+    }) in
     let end = filled k inner.slots head.node (Branch e inner.node behind.node) in
     let size = filled_length k inner.slots head.node (Branch e inner.node behind.node) in
     let at_head : head.node < length end = omega (arith, leh, ley, lex, size) in
     let at_inner : inner.node < length end = omega (arith, p.within, size) in
     record {
-      fit = test_fits vars behind.slots grown.more inner.slots e inner.node behind.node is p.fit (over_can_evaluate e vars s below formed.0) p.within h.within k x formed.4 (lay_begins x tail.slots tail.node behind.node tail.node);
+      fit = test_fits vars behind.slots grown.more inner.slots e inner.node behind.node is p.fit (over_can_evaluate e vars s below formed.0)
+          p.within h.within k x formed.4 (lay_begins x tail.slots tail.node behind.node tail.node);
       within = on f (length end) head.node inner.node at_head at_inner;
     }
   where
@@ -218,4 +267,9 @@ lay_fits (tree.Block x c) vars s in_loop slots m b t below formed ready =
     let behind = lay c slots m b t in
     let h = lay_fits c vars s in_loop slots m b t below formed.1 ready in
     let le = grows_length slots behind.slots (lay_grows c slots m b t) in
-    lay_fits x vars s in_loop behind.slots behind.node b t below formed.0 (record { fit = h.fit; next = h.within; out = omega (arith, le, ready.out); again = omega (arith, le, ready.again) })
+    lay_fits x vars s in_loop behind.slots behind.node b t below formed.0 (record {
+      fit = h.fit;
+      next = h.within;
+      out = omega (arith, le, ready.out);
+      again = omega (arith, le, ready.again);
+    })

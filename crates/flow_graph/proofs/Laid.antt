@@ -70,8 +70,17 @@ laid_more tree.Nil at more x n m b t h = h
 laid_more (tree.Set v e c) at more x n m b t h = (h.0, x.by _ _ h.1, laid_more c at more x h.0 m b t h.2)
 laid_more (tree.If e a d c) at more x n m b t h =
     (h.0, h.1, h.2, x.by _ _ h.3, laid_more a at more x _ _ b t h.4, laid_more d at more x _ _ b t h.5, laid_more c at more x _ _ b t h.6)
-laid_more (tree.Loop k e a d f c) at more x n m b t h =
-    (h.0, h.1, h.2, h.3, test_more at more x k e _ _ _ h.4, laid_more a at more x _ _ _ _ h.5, laid_more d at more x _ _ b t h.6, h.7, laid_more c at more x _ _ b t h.8)
+laid_more (tree.Loop k e a d f c) at more x n m b t h = (
+  h.0,
+  h.1,
+  h.2,
+  h.3,
+  test_more at more x k e _ _ _ h.4,
+  laid_more a at more x _ _ _ _ h.5,
+  laid_more d at more x _ _ b t h.6,
+  h.7,
+  laid_more c at more x _ _ b t h.8,
+)
 laid_more (tree.Break c) at more x n m b t h = (h.0, h.1, laid_more c at more x _ _ b t h.2)
 laid_more (tree.Continue c) at more x n m b t h = (h.0, h.1, laid_more c at more x _ _ b t h.2)
 laid_more (tree.Return e c) at more x n m b t h = (x.by _ _ h.0, h.1, laid_more c at more x _ _ b t h.2)
@@ -146,8 +155,12 @@ later c old new g n m b t h = laid_more c (table_of old) (table_of new) (grows_e
 pub lay_laid : (c : Statements) (slots : Slots) (m b t : ℕ) → Laid (table_of (lay c slots m b t).slots) c (lay c slots m b t).node m b t
 lay_laid tree.Nil slots m b t = refl
 lay_laid (tree.Set x e c) slots m b t =
-    let behind = lay c slots m b t in
-    (behind.node, table_at behind.slots [] (Some (Set x e behind.node)), later c behind.slots _ (grows_one behind.slots _) behind.node m b t (lay_laid c slots m b t))
+    let behind = lay c slots m b t in (
+      behind.node,
+      table_at behind.slots [] (Some (Set x e behind.node)),
+      later c behind.slots _ (grows_one behind.slots _)
+          behind.node m b t (lay_laid c slots m b t),
+    )
 lay_laid (tree.If e x y c) slots m b t =
     let behind = lay c slots m b t in
     let first = lay x behind.slots behind.node b t in
@@ -182,7 +195,8 @@ lay_laid (tree.Loop k e x y f c) slots m b t =
       test_laid k behind.slots grown.more inner.slots e inner.node behind.node is,
       laid_more x (table_of inner.slots) (table_of end) ext inner.node tail.node behind.node tail.node (lay_laid x tail.slots tail.node behind.node tail.node),
       laid_more y (table_of inner.slots)
-          (table_of end) ext tail.node head.node b t (later y tail.slots inner.slots (lay_grows x tail.slots tail.node behind.node tail.node) tail.node head.node b t (lay_laid y head.slots head.node b t)),
+          (table_of end) ext tail.node head.node b t (later y tail.slots inner.slots (lay_grows x tail.slots tail.node behind.node tail.node)
+          tail.node head.node b t (lay_laid y head.slots head.node b t)),
       refl,
       laid_more c (table_of inner.slots)
           (table_of end) ext behind.node m b t (later c behind.slots inner.slots before behind.node m b t (lay_laid c slots m b t)),
@@ -193,8 +207,16 @@ lay_laid (tree.Return e c) slots m b t =
     let behind = lay c slots m b t in
     (table_at behind.slots [] (Some (Return e)), behind.node, later c behind.slots _ (grows_one behind.slots _) behind.node m b t (lay_laid c slots m b t))
 lay_laid (tree.Mark k c) slots m b t =
-    let behind = lay c slots m b t in
-    (behind.node, table_at behind.slots [] (Some (Mark k behind.node)), later c behind.slots _ (grows_one behind.slots _) behind.node m b t (lay_laid c slots m b t))
+    let behind = lay c slots m b t in (
+      behind.node,
+      table_at behind.slots [] (Some (Mark k behind.node)),
+      later c behind.slots _ (grows_one behind.slots _)
+          behind.node m b t (lay_laid c slots m b t),
+    )
 lay_laid (tree.Block x c) slots m b t =
-    let behind = lay c slots m b t in
-    (behind.node, lay_laid x behind.slots behind.node b t, later c behind.slots _ (lay_grows x behind.slots behind.node b t) behind.node m b t (lay_laid c slots m b t))
+    let behind = lay c slots m b t in (
+      behind.node,
+      lay_laid x behind.slots behind.node b t,
+      later c behind.slots _ (lay_grows x behind.slots behind.node b t)
+          behind.node m b t (lay_laid c slots m b t),
+    )

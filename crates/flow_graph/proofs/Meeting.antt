@@ -1,7 +1,7 @@
 -- The places that a graph's runs meet, and the values there.
 use Rattle.std.proofs.lemmas.Option.{slice_get-get_or}
 use Rattle.std.proofs.lemmas.List.{length-map}
-use Rattle.std.proofs.Common.{◌≡◌, ℕ, zero, suc, ◌<◌, ◌≤◌, cond, Bool, true, false, ◌⊎◌, inl, inr, List, [], ◌∷◌, length, map, get_or, Option, Some, None, IsSome, ℤ, pos, refl, sym, ap, ◌∙◌, subst, arith}
+use Rattle.std.proofs.Common.{◌≡◌, ℕ, zero, suc, ◌<◌, ◌≤◌, cond, Bool, true, false, ◌⊎◌, inl, inr, List, [], ◌∷◌, length, map, get_or, Option, Some, None, IsSome, ℤ, refl, sym, ap, ◌∙◌, subst, arith}
 use Rattle.std.specs.Prelude.{slice_get, slice_index_or}
 use Rattle.std.specs.List.Sorted.{IsStrictlyIncreasing}
 use Rattle.std.specs.Option.{option_map}
@@ -15,8 +15,8 @@ use Rattle.flow_graph.specs.declared.op.Op.{Op}
 use Rattle.flow_graph.specs.declared.stop.Stop.{Stop}
 use Rattle.flow_graph.specs.Operation.{Operation, Set, Branch, Mark, Return, operation_of}
 use Rattle.flow_graph.specs.FlowGraph.{FlowGraph, operation_at, stop_of, scope_of_stop, node_after, variables_at, width_at, GoesOnAt, HasPlace}
-use Rattle.flow_graph.specs.Run.{turn, values_with, values_of, seen_at, seen_turn, seen_from, IsGraphSegment}
-use Rattle.flow_graph.specs.WellFormed.{IsMark, Fits, IsFlowGraph}
+use Rattle.flow_graph.specs.Run.{values_with, values_of, seen_at, seen_from}
+use Rattle.flow_graph.specs.WellFormed.{IsMark, IsFlowGraph}
 use Rattle.flow_graph.specs.Laws.{GraphSegmentIsDetermined, GraphSegmentExists, GraphSegmentFits, EntryHasParameters, MapOfListed}
 use Rattle.flow_graph.proofs.Rising.{none_increase, as_many_below, listed_rise}
 use Rattle.flow_graph.proofs.Listing.{parameters_counted}
@@ -67,7 +67,8 @@ module _ (graph : FlowGraph) (is : IsFlowGraph graph) where
   mark_meets node env None o_is mark = absurd mark
   mark_meets node env (Some (Set x e next)) o_is mark = absurd mark
   mark_meets node env (Some (Branch e first second)) o_is mark = absurd mark
-  mark_meets node env (Some (Mark k next)) o_is mark = one_step node env (Some (Mark k next)) o_is 0 (place.Mark k, values_of (variables_at graph (place.Mark k)) env) refl
+  mark_meets node env (Some (Mark k next)) o_is mark = one_step node env (Some (Mark k next))
+      o_is 0 (place.Mark k, values_of (variables_at graph (place.Mark k)) env) refl
   mark_meets node env (Some (Return e)) o_is mark = absurd mark
 
   -- a node of the graph has an operation

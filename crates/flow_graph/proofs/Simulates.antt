@@ -137,7 +137,8 @@ module _ (at : Table) where
       → TestLaid at m l.cond n body out → WorkLaid at w out b t
       → Moves (Test s l ∷ w) (tested m (Cond s l ∷ w) env) n env
   test_moves None s l w n body tail out b t env e r q h = inl ((refl, record { b = b; t = t; laid = (n, body, tail, out, r, q, h) }, omega arith), refl)
-  test_moves (Some k) s l w n body tail out b t env e r q h = does _ _ n env (Mark k q.0) q.1 (refl, refl, record { b = b; t = t; laid = (n, body, tail, out, r, q.2, h) }) refl
+  test_moves (Some k) s l w n body tail out b t env e r q h = does _ _ n env (Mark k q.0)
+      q.1 (refl, refl, record { b = b; t = t; laid = (n, body, tail, out, r, q.2, h) }) refl
 
   pub step_moves : (w : Work) (n b t : ℕ) (env : List ℤ) → WorkLaid at w n b t → Moves w (step w env) n env
   step_moves [] n b t env h = does _ _ n env (Return (Num (pos 0))) h.0 refl refl
@@ -350,7 +351,8 @@ module _ {R : Type 0} (holds : Option Expression → List ℤ → Bool) (failed 
   backward_from j go (suc fuel) m w n b t env r le p len l h =
       elim (step_moves at w n b t env l) [
         | inl q ↦ (let o = backward_wait m r w n env (step w env)
-            (marks_stay_ahead f w env p) q.0 (λ v c u lt pv lv. backward_from j go fuel m v n c u env r (omega arith) pv len lv h) in record { steps = suc o.0; is = unrefused o.0 m w env q.1 ∙ o.1 })
+            (marks_stay_ahead f w env p) q.0 (λ v c u lt pv lv. backward_from j go fuel m v n c u env r (omega arith) pv len lv h)
+            in record { steps = suc o.0; is = unrefused o.0 m w env q.1 ∙ o.1 })
         | inr q ↦ backward_does j m r w n env p len q go h
       ]
 

@@ -2,8 +2,8 @@
 use Rattle.std.proofs.lemmas.Bool.{eqb-true, eq-eqb}
 use Rattle.std.proofs.lemmas.Bool.Decides.{nat_tests}
 use Rattle.std.proofs.lemmas.Option.{slice_get-get_or}
-use Rattle.std.proofs.Common.{◌≡◌, ℕ, zero, suc, ◌+◌, ◌<◌, Bool, true, false, cond, nat_lt, ◌⊎◌, inl, inr, List, [], ◌∷◌, length, map, get_or, Option, Some, None, refl, sym, ap, ◌∙◌, subst, arith}
-use Rattle.std.specs.Prelude.{◌==◌, insert, slice_get, slice_index}
+use Rattle.std.proofs.Common.{◌≡◌, ℕ, suc, ◌+◌, ◌<◌, Bool, true, false, cond, nat_lt, ◌⊎◌, inl, inr, List, [], ◌∷◌, length, map, get_or, Option, Some, None, refl, sym, ap, ◌∙◌, subst, arith}
+use Rattle.std.specs.Prelude.{◌==◌, insert, slice_get}
 use Rattle.std.specs.List.{prefix_len}
 use Rattle.std.specs.List.Sorted.{IsStrictlyIncreasing}
 use Rattle.std.specs.Option.{option_map}
@@ -89,7 +89,8 @@ rising_more : (stop : Stop) (stops : List Stop) → stop_of stops stop.mark ≡ 
     → IsStrictlyIncreasing (marks (with_stop stop stops))
 rising_more stop [] none rising = one_increases stop.mark
 rising_more stop (first ∷ others) none rising =
-    on (nat_lt first.mark stop.mark) refl (λ less. rising_from first.mark stop others less (none_here (first.mark == stop.mark) first (stop_of others stop.mark) none).1 rising)
+    on (nat_lt first.mark stop.mark) refl (λ less. rising_from first.mark stop others less (none_here (first.mark == stop.mark)
+    first (stop_of others stop.mark) none).1 rising)
   where
     on : (t : Bool) → nat_lt first.mark stop.mark ≡ t → (first.mark < stop.mark → IsStrictlyIncreasing (first.mark ∷ marks (with_stop stop others)))
         → IsStrictlyIncreasing (marks (cond t (first ∷ with_stop stop others) (stop ∷ first ∷ others)))

@@ -361,8 +361,10 @@ module _ (f : Function) (is : IsFunction f) (ops : List Op) (entry : ℕ) (out :
         λ h. (let o = begin_source always None with_event no_event always_accepts inputs trace h.steps h.ran in record { steps = o.steps; ran = o.is }),
       );
       segments = λ l e l' e'. (
-        λ h. (let o = to_graph always None at_mark at_exit always_accepts l h.work h.from e (l', e') h.steps h.met in record { from = (starts l h.work h.from).from; steps = o.steps; met = o.is }),
-        λ h. (let p = a_place l h.from in let o = to_source always None at_mark at_exit always_accepts l p.work p.from e (l', e') h.steps h.met in record { work = p.work; from = p.from; steps = o.steps; met = o.is }),
+        λ h. (let o = to_graph always None at_mark at_exit always_accepts l h.work h.from e (l', e')
+            h.steps h.met in record { from = (starts l h.work h.from).from; steps = o.steps; met = o.is }),
+        λ h. (let p = a_place l h.from in let o = to_source always None at_mark at_exit always_accepts l p.work p.from e (l', e')
+            h.steps h.met in record { work = p.work; from = p.from; steps = o.steps; met = o.is }),
       );
       judged = λ inputs limit result. (
         λ h. (let o = begin_graph evaluates_fitting (Some outcome.Wide)

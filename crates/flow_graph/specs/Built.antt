@@ -12,9 +12,9 @@ use Rattle.flow_graph.specs.FlowGraph.{FlowGraph, variables_at, width_at, GoesOn
 use Rattle.flow_graph.specs.Run.{IsGraphTrace, IsGraphSegment}
 use Rattle.flow_graph.specs.Judged.{IsGraphJudged}
 
--- The graph has the function's parameters, variables and places, with the same variables in scope there, so that the same
--- values fit; and its traces, its segments from every place, and what its runs are judged to be are those of the source's
--- steps.
+-- The graph has the function's parameters, variables and places, with the same variables in scope there, so that the
+-- same values fit; and its traces, its segments from every place, and what its runs are judged to be are those of the
+-- source's steps.
 pub record IsGraphOf (f : Program) (graph : FlowGraph) : Type 0 where
   pub params : graph.params ≡ f.params
   pub vars : graph.vars ≡ f.vars

@@ -9,8 +9,9 @@ use Rattle.flow_graph.specs.declared.op.Op.{Op}
 use Rattle.flow_graph.specs.declared.stop.Stop.{Stop}
 use Rattle.flow_graph.specs.Operation.{Operation, operation_of}
 
--- The numbers of parameters and of variables, the nodes by number, the node at which a run begins, and the marks. A `Stop`
--- (src/stop.rt) is a mark, the node at which a run goes on from it, and the variables in scope there, by rising number.
+-- The numbers of parameters and of variables, the nodes by number, the node at which a run begins, and the marks. A
+-- `Stop` (src/stop.rt) is a mark, the node at which a run goes on from it, and the variables in scope there, by rising
+-- number.
 pub record FlowGraph : Type 0 where
   pub params : ℕ
   pub vars : ℕ
@@ -20,7 +21,8 @@ pub record FlowGraph : Type 0 where
 
 -- The graph of these parts.
 abbrev pub flow_graph : ℕ → ℕ → List Op → ℕ → List Stop → FlowGraph
-flow_graph params vars ops entry stops = record { params = params; vars = vars; ops = ops; entry = entry; stops = stops }
+flow_graph params vars ops entry stops =
+    record { params = params; vars = vars; ops = ops; entry = entry; stops = stops }
 
 -- The operation of the node with this number, where there is one.
 abbrev pub operation_at : FlowGraph → ℕ → Option Operation

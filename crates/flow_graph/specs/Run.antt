@@ -32,8 +32,8 @@ operand (Branch e first second) = Some e
 operand (Mark mark next) = None
 operand (Return e) = Some e
 
--- The values of these variables, in their order; the first argument is that of a variable without one. They are integers in
--- a run, and may be anything else, as linear forms are.
+-- The values of these variables, in their order; the first argument is that of a variable without one. They are
+-- integers in a run, and may be anything else, as linear forms are.
 abbrev pub values_with : {A : Type 0} → A → List ℕ → List A → List A
 values_with absent variables env = map (λ x. slice_index_or env x absent) variables
 
@@ -41,8 +41,8 @@ values_with absent variables env = map (λ x. slice_index_or env x absent) varia
 abbrev pub values_of : List ℕ → List ℤ → List ℤ
 values_of variables env = values_with (pos 0) variables env
 
--- What an observer sees of a run, in the words of the observer of the source's steps: `holds` judges the expression that a
--- step evaluates, `failed` is seen where it does not hold, `pass` is told of a mark, and `done` of the result.
+-- What an observer sees of a run, in the words of the observer of the source's steps: `holds` judges the expression
+-- that a step evaluates, `failed` is seen where it does not hold, `pass` is told of a mark, and `done` of the result.
 module _ {R : Type 0} (holds : Option Expression → List ℤ → Bool) (failed : Option R)
     (pass : ℕ → ℕ → List ℤ → Option R → Option R) (done : ℤ → R) (graph : FlowGraph) where
   -- What is seen of a turn, where the first argument tells what is seen after it.
@@ -68,8 +68,9 @@ pub record IsGraphTrace (graph : FlowGraph) (inputs : List ℤ) (trace : Trace) 
   pub ran : seen_from always None with_event no_event graph steps 0 graph.entry
       (spread (first_variables graph.params) graph.vars inputs) ≡ Some trace
 
--- From the place `l` with the values `e` in scope and 0 elsewhere, the next place that is met is `l'`, with the values `e'`.
--- `e` may have any length: a variable in scope without a value is 0, and values beyond the variables in scope are left out.
+-- From the place `l` with the values `e` in scope and 0 elsewhere, the next place that is met is `l'`, with the values
+-- `e'`. `e` may have any length: a variable in scope without a value is 0, and values beyond the variables in scope are
+-- left out.
 pub record IsGraphSegment (graph : FlowGraph) (l : Place) (e : List ℤ) (l' : Place) (e' : List ℤ) : Type 0 where
   pub from : GoesOnAt graph l
   pub steps : ℕ

@@ -17,8 +17,8 @@ abbrev pub Leads : (ℕ → Option Operation) → ℕ → ℕ → ℕ → Type 0
 Leads at count node next = (next < count) × ((next < node) ⊎ IsMark (at next))
 
 -- The operation of the node is over these numbers of nodes and variables: it sets one of these variables, and what it
--- evaluates can be evaluated over them, which is to say that it reads no others and that each divisor is a constant of at
--- least 1. Its edges lead down or to marks; one out of a mark may lead anywhere.
+-- evaluates can be evaluated over them, which is to say that it reads no others and that each divisor is a constant of
+-- at least 1. Its edges lead down or to marks; one out of a mark may lead anywhere.
 abbrev pub Fits : (ℕ → Option Operation) → ℕ → ℕ → ℕ → Operation → Type 0
 Fits at count vars node (Set x e next) = (x < vars) × CanEvaluate vars e × Leads at count node next
 Fits at count vars node (Branch e first second) =
@@ -32,8 +32,9 @@ pub record IsStop (stops : List Stop) (mark next : ℕ) : Type 0 where
   pub found : stop_of stops mark ≡ Some stop
   pub next_is : stop.next ≡ next
 
--- The graph has at most 64 variables, the parameters among them, and fewer than 2^32 nodes, each of which fits. Its marks
--- are listed by rising number, each with the node that comes next and with variables of the graph, which rise as well.
+-- The graph has at most 64 variables, the parameters among them, and fewer than 2^32 nodes, each of which fits. Its
+-- marks are listed by rising number, each with the node that comes next and with variables of the graph, which rise as
+-- well.
 pub record IsFlowGraph (graph : FlowGraph) : Type 0 where
   pub few : graph.vars ≤ 64
   pub parameters : graph.params ≤ graph.vars

@@ -1,8 +1,8 @@
 -- Texts of small lists and answers, by computing.
 use Rattle.std.proofs.Common.{◌≡◌, [], ◌∷◌, refl, pos, negsuc, None}
 use Rattle.std.specs.Prelude.{codes}
-use Rattle.c_ast.specs.declared.place.Side.TheVariants.{A, B}
-use Rattle.graph_run.specs.declared.skip.Skip.TheVariants.{NotEnded, Wide}
+use Rattle.c_ast.specs.declared.place.Side.TheVariants.{A, B, Pre}
+use Rattle.graph_run.specs.declared.skip.Skip.TheVariants.{NotEnded, Wide, Unmet}
 use Rattle.std.specs.Fmt.{digits}
 use Rattle.report.specs.Indexes.{runs, indexes_text}
 use Rattle.report.specs.Samples.{indexes_where, skip_of, sample_lines}
@@ -41,6 +41,10 @@ sample_lines-none = refl
 sample_lines-order : sample_lines (skip_of B Wide ∷ skip_of B NotEnded ∷ skip_of A NotEnded ∷ []) ≡ codes "not-ended A 2\nnot-ended B 1\nwide B 0\n"
 unfolding digits
 sample_lines-order = refl
+
+sample_lines-pre : sample_lines (skip_of Pre Unmet ∷ skip_of A Wide ∷ skip_of Pre Wide ∷ None ∷ []) ≡ codes "equal 3\nunmet pre 0\nwide pre 2\nwide A 1\n"
+unfolding digits
+sample_lines-pre = refl
 
 different_text-two : different_text 7 (pos 3 ∷ negsuc 0 ∷ []) (pos 0) (negsuc 1) ≡ codes "different\nsample 7\ninput 3 -1\nA returns 0\nB returns -2\n"
 unfolding digits

@@ -5,5 +5,6 @@ use Rattle.std.proofs.lemmas.List.{append-nil}
 pub three_behind : (text a b c : List ℕ) → text ++ (a ++ (b ++ c)) ≡ text ++ a ++ b ++ c
 three_behind text a b c = simp append_assoc
 
-pub five_behind : (text a b c d e : List ℕ) → text ++ a ++ b ++ c ++ d ++ e ≡ text ++ (a ++ (b ++ (c ++ (d ++ (e ++ [])))))
-five_behind text a b c d e = simp (append_assoc, append-nil)
+pub seven_behind : (text a b c d e f g : List ℕ)
+    → text ++ a ++ b ++ c ++ d ++ e ++ f ++ g ≡ text ++ (a ++ (b ++ (c ++ (d ++ (e ++ (f ++ (g ++ [])))))))
+seven_behind text a b c d e f g = simp (append_assoc, append-nil)

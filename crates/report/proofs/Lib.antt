@@ -3,3 +3,4 @@ pub mod FaultCases
 pub mod Runs
 pub mod Joined
 pub mod Told
+pub mod Laws

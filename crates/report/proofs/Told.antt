@@ -1,13 +1,14 @@
 -- The laws of what is told of samples.
-use Rattle.std.proofs.Common.{◌≡◌, ◌≢◌, ℕ, zero, suc, ◌+◌, Bool, true, false, cond, List, [], ◌∷◌, get_or, arith, refl, ap, sym, ◌∙◌, inl, inr, ◌⊎◌, ⊎_elim, subst, ◌&&◌, Option, Some, None}
+use Rattle.std.proofs.Common.{◌≡◌, ℕ, zero, suc, ◌+◌, Bool, true, false, cond, List, [], ◌∷◌, get_or, arith, refl, ap, sym, ◌∙◌, inl, inr, ◌⊎◌, ⊎_elim, subst, ◌&&◌, Option, Some, None}
 use Rattle.std.specs.Prelude.{Contains, slice_get, codes}
 use Rattle.std.proofs.lemmas.Option.{slice_get-get_or, same_Some}
 use Rattle.std.proofs.lemmas.List.Elements.{All-get_or}
 use Rattle.c_ast.specs.declared.place.Side.{Side}
-use Rattle.c_ast.specs.declared.place.Side.TheVariants.{A, B}
+use Rattle.c_ast.specs.declared.place.Side.TheVariants.{A, B, Pre}
 use Rattle.graph_run.specs.declared.skip.Skip.{Skip}
-use Rattle.graph_run.specs.declared.skip.Skip.TheVariants.{NotEnded, Wide, Memory}
+use Rattle.graph_run.specs.declared.skip.Skip.TheVariants.{NotEnded, Wide, Unmet, Memory}
 use Rattle.trace_pair.specs.declared.skipped.Skipped.{Skipped}
+use Rattle.trace_pair.specs.Pairs.{IsCauseOf}
 use Rattle.report.specs.Samples.{IsKeptSample, is_side, is_why, is_same, indexes_from, skip_of, causes}
 use Rattle.report.specs.Laws.{TellsCause, TellsEachOnce}
 
@@ -15,20 +16,32 @@ use Rattle.report.specs.Laws.{TellsCause, TellsEachOnce}
 
 side_from_test : (x y : Side) → is_side x y ≡ true → x ≡ y
 side_from_test A A e = refl
-side_from_test B B e = refl
 side_from_test A B e = absurd cc
+side_from_test A Pre e = absurd cc
 side_from_test B A e = absurd cc
+side_from_test B B e = refl
+side_from_test B Pre e = absurd cc
+side_from_test Pre A e = absurd cc
+side_from_test Pre B e = absurd cc
+side_from_test Pre Pre e = refl
 
 why_from_test : (x y : Skip) → is_why x y ≡ true → x ≡ y
 why_from_test NotEnded NotEnded e = refl
-why_from_test Wide Wide e = refl
-why_from_test Memory Memory e = refl
 why_from_test NotEnded Wide e = absurd cc
+why_from_test NotEnded Unmet e = absurd cc
 why_from_test NotEnded Memory e = absurd cc
 why_from_test Wide NotEnded e = absurd cc
+why_from_test Wide Wide e = refl
+why_from_test Wide Unmet e = absurd cc
 why_from_test Wide Memory e = absurd cc
+why_from_test Unmet NotEnded e = absurd cc
+why_from_test Unmet Wide e = absurd cc
+why_from_test Unmet Unmet e = refl
+why_from_test Unmet Memory e = absurd cc
 why_from_test Memory NotEnded e = absurd cc
 why_from_test Memory Wide e = absurd cc
+why_from_test Memory Unmet e = absurd cc
+why_from_test Memory Memory e = refl
 
 both_pass : (t u : Bool) → t && u ≡ true → (t ≡ true) × (u ≡ true)
 both_pass true true e = (refl, refl)
@@ -50,10 +63,12 @@ same_from_test (Some skipped) None e = absurd cc
 is_side-same : (x : Side) → is_side x x ≡ true
 is_side-same A = refl
 is_side-same B = refl
+is_side-same Pre = refl
 
 is_why-same : (x : Skip) → is_why x x ≡ true
 is_why-same NotEnded = refl
 is_why-same Wide = refl
+is_why-same Unmet = refl
 is_why-same Memory = refl
 
 is_same-same : (x : Option Skipped) → is_same x x ≡ true
@@ -126,7 +141,9 @@ skip_words A NotEnded = codes "not-ended A"
 skip_words A Wide = codes "wide A"
 skip_words B NotEnded = codes "not-ended B"
 skip_words B Wide = codes "wide B"
-skip_words side Memory = []
+skip_words Pre Unmet = codes "unmet pre"
+skip_words Pre Wide = codes "wide pre"
+skip_words _ _ = []
 
 abbrev words_of : Option Skipped → List ℕ
 words_of None = codes "equal"
@@ -139,16 +156,24 @@ row_words row (suc zero, within, is) = subst (λ (r : Option Skipped × List ℕ
 row_words row (suc (suc zero), within, is) = subst (λ (r : Option Skipped × List ℕ). r.1 ≡ words_of r.0) is refl
 row_words row (suc (suc (suc zero)), within, is) = subst (λ (r : Option Skipped × List ℕ). r.1 ≡ words_of r.0) is refl
 row_words row (suc (suc (suc (suc zero))), within, is) = subst (λ (r : Option Skipped × List ℕ). r.1 ≡ words_of r.0) is refl
-row_words row (suc (suc (suc (suc (suc k)))), within, is) = absurd (omega arith)
+row_words row (suc (suc (suc (suc (suc zero)))), within, is) = subst (λ (r : Option Skipped × List ℕ). r.1 ≡ words_of r.0) is refl
+row_words row (suc (suc (suc (suc (suc (suc zero))))), within, is) = subst (λ (r : Option Skipped × List ℕ). r.1 ≡ words_of r.0) is refl
+row_words row (suc (suc (suc (suc (suc (suc (suc k)))))), within, is) = absurd (omega arith)
 
 -- Each skip that is kept has a row.
-skip_row : (side : Side) (why : Skip) → why ≢ Memory → Contains causes (skip_of side why, skip_words side why)
-skip_row A NotEnded kept = (1, omega arith, refl)
-skip_row A Wide kept = (2, omega arith, refl)
-skip_row B NotEnded kept = (3, omega arith, refl)
-skip_row B Wide kept = (4, omega arith, refl)
-skip_row A Memory kept = absurd (kept refl)
-skip_row B Memory kept = absurd (kept refl)
+skip_row : (side : Side) (why : Skip) → IsCauseOf side why → Contains causes (skip_of side why, skip_words side why)
+skip_row A NotEnded kept = (3, omega arith, refl)
+skip_row A Wide kept = (4, omega arith, refl)
+skip_row A Unmet kept = absurd kept
+skip_row A Memory kept = absurd kept
+skip_row B NotEnded kept = (5, omega arith, refl)
+skip_row B Wide kept = (6, omega arith, refl)
+skip_row B Unmet kept = absurd kept
+skip_row B Memory kept = absurd kept
+skip_row Pre NotEnded kept = absurd kept
+skip_row Pre Wide kept = (2, omega arith, refl)
+skip_row Pre Unmet kept = (1, omega arith, refl)
+skip_row Pre Memory kept = absurd kept
 
 sample_row : (sample : Option Skipped) → IsKeptSample sample → Contains causes (sample, words_of sample)
 sample_row None kept = (0, omega arith, refl)

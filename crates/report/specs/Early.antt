@@ -6,25 +6,27 @@ use Rattle.report.specs.declared.early.Early.{Early}
 use Rattle.report.specs.declared.early.Early.TheVariants.{Equivalent, Different, Unknown}
 use Rattle.report.specs.Samples.{IsKeptSample, sample_lines}
 
--- No cause that is told is want of memory.
+-- Each cause that is told is one of its side's.
 abbrev pub IsKeptEarly : Early → Type 0
 IsKeptEarly (Unknown samples) = All IsKeptSample samples
 IsKeptEarly _ = Unit {0}
 
--- the values, each after a space
+-- The values, each after a space.
 abbrev pub values_text : List ℤ → List ℕ
 values_text values = flat_map (λ value. codes " " ++ signed_decimal value) values
 
--- the sample, its input, and what the two functions return on it
+-- The sample, its input, and what the two functions return on it.
 abbrev pub different_text : ℕ → List ℤ → ℤ → ℤ → List ℕ
 different_text index input first second =
     codes "different\nsample " ++ decimal index ++ codes "\ninput" ++ values_text input
     ++ codes "\nA returns " ++ signed_decimal first
     ++ codes "\nB returns " ++ signed_decimal second ++ codes "\n"
 
+-- The lines of the samples, where nothing is known.
 abbrev pub unknown_text : List (Option Skipped) → List ℕ
 unknown_text samples = codes "unknown\n" ++ sample_lines samples
 
+-- The lines that tell what is known.
 abbrev pub early_text : Early → List ℕ
 early_text Equivalent = codes "equivalent\n"
 early_text (Different index input first second) = different_text index input first second

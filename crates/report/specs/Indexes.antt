@@ -7,7 +7,7 @@ abbrev pub with_run : ℕ → ℕ → List (ℕ × ℕ) → List (ℕ × ℕ)
 with_run first last [] = (first, last) ∷ []
 with_run first last (run ∷ more) = if run.0 == suc last then (first, run.1) ∷ more else (first, last) ∷ run ∷ more
 
--- the maximal runs of successive rising numbers, in the order of the list
+-- The maximal runs of successive rising numbers, in the order of the list.
 abbrev pub runs : List ℕ → List (ℕ × ℕ)
 runs [] = []
 runs (index ∷ indexes) = with_run index index (runs indexes)
@@ -16,10 +16,11 @@ runs (index ∷ indexes) = with_run index index (runs indexes)
 abbrev pub run_text : ℕ × ℕ → List ℕ
 run_text run = if run.0 == run.1 then decimal run.0 else decimal run.0 ++ codes "-" ++ decimal run.1
 
--- the runs with a space between each two
+-- The runs with a space between each two.
 abbrev pub runs_text : List (ℕ × ℕ) → List ℕ
 runs_text all = join_by run_text (codes " ") all
 
+-- The runs of a list of indexes, or the word `none` for an empty list.
 abbrev pub indexes_text : List ℕ → List ℕ
 indexes_text [] = codes "none"
 indexes_text (index ∷ indexes) = runs_text (runs (index ∷ indexes))

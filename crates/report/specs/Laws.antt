@@ -4,12 +4,12 @@ use Rattle.trace_pair.specs.declared.skipped.Skipped.{Skipped}
 use Rattle.report.specs.Indexes.{runs}
 use Rattle.report.specs.Samples.{IsKeptSample, indexes_where, causes}
 
--- as many successive rising numbers, from the first one on
+-- As many successive rising numbers, from the first one on.
 abbrev pub rising : ℕ → ℕ → List ℕ
 rising first zero = []
 rising first (suc count) = first ∷ rising (suc first) count
 
--- the numbers of a run: first, first + 1, .., last
+-- The numbers of a run: first, first + 1, .., last.
 abbrev pub numbers_of : ℕ × ℕ → List ℕ
 numbers_of run = rising run.0 (suc run.1 - run.0)
 
@@ -25,6 +25,7 @@ pub record AreRunsOf (indexes : List ℕ) (all : List (ℕ × ℕ)) : Type 0 whe
   pub apart : AreApart all
   pub rising : All (λ run. run.0 ≤ run.1) all
 
+-- Every list has its runs.
 abbrev pub HasRuns : Type 0
 HasRuns = (indexes : List ℕ) → AreRunsOf indexes (runs indexes)
 
@@ -44,5 +45,7 @@ pub record IsToldOnce (samples : List (Option Skipped)) (index : ℕ) : Type 0 w
   pub told : Contains (indexes_where row.0 samples) index
   pub once : (other : Option Skipped × List ℕ) → Contains causes other → Contains (indexes_where other.0 samples) index → other ≡ row
 
+-- The index of each sample is told for exactly one of the causes.
 abbrev pub TellsEachOnce : Type 0
-TellsEachOnce = (samples : List (Option Skipped)) (index : ℕ) → All IsKeptSample samples → index < length samples → IsToldOnce samples index
+TellsEachOnce = (samples : List (Option Skipped)) (index : ℕ)
+    → All IsKeptSample samples → index < length samples → IsToldOnce samples index

@@ -14,7 +14,8 @@ pub enum Early {
     Equivalent,
     /// They return differently on the input of a sample.
     Different {
-        /// The sample's index, from 0 and below the number of samples. No earlier sample tells the functions apart.
+        /// The sample's index, from 0 and below the number of samples. No earlier sample tells the
+        /// functions apart.
         index: u32,
         /// The sample's input: the value of each parameter, in order.
         input: Items<i128>,
@@ -23,8 +24,8 @@ pub enum Early {
         /// What B's function returns.
         second: i128,
     },
-    /// Nothing is known of the two functions. Each sample, by its index, is a pair with equal results (`None`) or was
-    /// skipped.
+    /// Nothing is known of the two functions. Each sample, by its index, is a pair with equal
+    /// results (`None`) or was skipped.
     Unknown {
         samples: Items<Option<Skipped>>,
     },

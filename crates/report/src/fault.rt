@@ -1,6 +1,7 @@
 //! What is refused, and the line that tells it.
 ghost use Rattle.std.specs.Prelude.{◌≡◌, ◌≢◌, IfOk, string_bytes};
-ghost use Rattle.report.specs.Faults.{IsKept, fault_text, about, token_text, reader_text, check_text, arity_text};
+ghost use Rattle.report.specs.Faults.{IsKept, fault_text, about};
+ghost use Rattle.report.specs.Faults.{token_text, reader_text, check_text, arity_text};
 
 use c_ast::{Arity, Name};
 use c_check::CheckFault;
@@ -8,7 +9,8 @@ use c_reader::ReadFault;
 use c_tokens::TokenFault;
 use std::alloc::{AllocError, Global};
 
-/// Why there is no answer. A fault that another one holds is never want of memory.
+/// Why there is no answer. A fault that another one holds is never want of memory. The condition on
+/// the inputs has the name of its option where a file has its own.
 #[derive(Debug, Drop)]
 pub enum Fault {
     /// The words are no command line.
@@ -24,15 +26,17 @@ pub enum Fault {
     /// The functions of this file break a rule.
     Check(Name, CheckFault),
     /// The functions have these numbers of parameters, which differ.
-    Different(Arity),
+    Arity(Arity),
 }
 
+/// A line about a file.
 fn about(alloc: Global, name: &str, what: &str) -> Result<String, AllocError>
     ensures { IfOk result (λ text. string_bytes text ≡ about name.now what.now) }
 {
     format!(in alloc; "llreve: {name}{what}\n")
 }
 
+/// The line of a faulty place in a text.
 fn token_text(alloc: Global, name: &str, fault: &TokenFault) -> Result<String, AllocError>
     requires { fault.now ≢ TokenFault.Memory }
     ensures { IfOk result (λ text. string_bytes text ≡ token_text name.now fault.now) }
@@ -54,6 +58,7 @@ fn token_text(alloc: Global, name: &str, fault: &TokenFault) -> Result<String, A
     }
 }
 
+/// The line of a text that is not in the grammar, or that is nested too deep.
 fn reader_text(alloc: Global, name: &str, fault: &ReadFault) -> Result<String, AllocError>
     requires { fault.now ≢ ReadFault.Memory }
     ensures { IfOk result (λ text. string_bytes text ≡ reader_text name.now fault.now) }
@@ -65,6 +70,7 @@ fn reader_text(alloc: Global, name: &str, fault: &ReadFault) -> Result<String, A
     }
 }
 
+/// The line of a broken rule on functions, names, loops and marks.
 fn check_text(alloc: Global, name: &str, fault: &CheckFault) -> Result<String, AllocError>
     requires { fault.now ≢ CheckFault.Memory }
     ensures { IfOk result (λ text. string_bytes text ≡ check_text name.now fault.now) }
@@ -87,6 +93,9 @@ fn check_text(alloc: Global, name: &str, fault: &CheckFault) -> Result<String, A
             format!(in alloc; "llreve: {name}: mark {mark} out of range\n")
         }
         CheckFault::MarkTwice(mark) => format!(in alloc; "llreve: {name}: mark {mark} twice\n"),
+        CheckFault::Divisor { line } => {
+            format!(in alloc; "llreve: {name}:{line}: divisor not a nonzero constant\n")
+        }
         CheckFault::ManyVariables(count) => {
             format!(in alloc; "llreve: {name}: {count} variables\n")
         }
@@ -94,12 +103,14 @@ fn check_text(alloc: Global, name: &str, fault: &CheckFault) -> Result<String, A
     }
 }
 
+/// The line of two functions with these numbers of parameters.
 fn arity_text(alloc: Global, first: u32, second: u32) -> Result<String, AllocError>
     ensures { IfOk result (λ text. string_bytes text ≡ arity_text first second) }
 {
     format!(in alloc; "llreve: arity {first} and {second}\n")
 }
 
+/// The line of a fault, as text.
 fn line_of(alloc: Global, fault: &Fault) -> Result<String, AllocError>
     requires { IsKept fault.now }
     ensures { IfOk result (λ text. string_bytes text ≡ fault_text fault.now) }
@@ -111,7 +122,7 @@ fn line_of(alloc: Global, fault: &Fault) -> Result<String, AllocError>
         Fault::Token(name, fault) => token_text(alloc, name.text(), fault),
         Fault::Reader(name, fault) => reader_text(alloc, name.text(), fault),
         Fault::Check(name, fault) => check_text(alloc, name.text(), fault),
-        Fault::Different(arity) => arity_text(alloc, arity.first, arity.second),
+        Fault::Arity(arity) => arity_text(alloc, arity.first, arity.second),
     }
 }
 

@@ -21,8 +21,8 @@ fn push_run(text: &mut String, first: u32, last: u32) -> Result<(), AllocError>
     }
 }
 
-/// The indexes by their maximal runs of successive rising numbers, with a space between each two: `0-1 3` for 0, 1 and
-/// 3. An empty list is `none`. The one error is want of memory.
+/// The indexes by their maximal runs of successive rising numbers, with a space between each two:
+/// `0-1 3` for 0, 1 and 3. An empty list is `none`. The one error is want of memory.
 pub fn indexes_text(alloc: Global, indexes: &[u32]) -> Result<String, AllocError>
     ensures { IfOk result (λ text. string_bytes text ≡ indexes_text indexes.now) }
 {

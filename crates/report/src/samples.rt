@@ -1,10 +1,11 @@
 //! What came of the samples, told by cause.
 ghost use Rattle.std.specs.Prelude.{◌≡◌, ◌++◌, IfOk, OnOk, string_bytes};
-ghost use Rattle.report.specs.Samples.{is_same, indexes_where, skip_of, index_line, sample_line, sample_lines};
+ghost use Rattle.report.specs.Samples.{is_same, indexes_where, skip_of};
+ghost use Rattle.report.specs.Samples.{index_line, sample_line, sample_lines};
 
 use crate::indexes::indexes_text;
-use c_ast::Side::{self, A, B};
-use graph_run::Skip::{self, NotEnded, Wide};
+use c_ast::Side::{self, A, B, Pre};
+use graph_run::Skip::{self, NotEnded, Unmet, Wide};
 use std::alloc::{AllocError, Global};
 use trace_pair::Skipped;
 
@@ -71,9 +72,12 @@ pub fn push_sample_lines(
     text: &mut String,
     samples: &[Option<Skipped>],
 ) -> Result<(), AllocError>
-    ensures { OnOk result (string_bytes text.new ≡ string_bytes text.old ++ sample_lines samples.now) }
+    ensures { OnOk result
+        (string_bytes text.new ≡ string_bytes text.old ++ sample_lines samples.now) }
 {
     push_line(alloc, text, "equal", samples, None)?;
+    push_line(alloc, text, "unmet pre", samples, skip_of(Pre, Unmet))?;
+    push_line(alloc, text, "wide pre", samples, skip_of(Pre, Wide))?;
     push_line(alloc, text, "not-ended A", samples, skip_of(A, NotEnded))?;
     push_line(alloc, text, "wide A", samples, skip_of(A, Wide))?;
     push_line(alloc, text, "not-ended B", samples, skip_of(B, NotEnded))?;

@@ -7,12 +7,12 @@ ghost use Rattle.report.specs.Early.{IsKeptEarly};
 use crate::early::{Early, early_text};
 use crate::fault::{Fault, fault_text};
 use crate::indexes::indexes_text;
-use c_ast::Side::{A, B};
+use c_ast::Side::{A, B, Pre};
 use c_ast::{Arity, Name};
 use c_check::CheckFault;
 use c_reader::ReadFault;
 use c_tokens::TokenFault;
-use graph_run::Skip::{NotEnded, Wide};
+use graph_run::Skip::{NotEnded, Unmet, Wide};
 use sqlite_items::Items;
 use std::alloc::{AllocError, Global};
 use std::test::Fail;
@@ -55,7 +55,7 @@ fn faults_of_words_and_texts(rt: HostRuntime) -> Result<(), Fail> {
     assert_eq!(rt; grammar.as_str(), "llreve: a/b.c: not in the grammar\n");
     let arity = line(
         alloc,
-        Fault::Different(Arity {
+        Fault::Arity(Arity {
             first: 1,
             second: 2,
         }),
@@ -115,6 +115,11 @@ fn faults_of_functions(rt: HostRuntime) -> Result<(), Fail> {
     );
     let twice = rule(alloc, CheckFault::MarkTwice(42))?;
     assert_eq!(rt; twice.as_str(), "llreve: a/b.c: mark 42 twice\n");
+    let divisor = rule(alloc, CheckFault::Divisor { line: 1 })?;
+    assert_eq!(rt;
+        divisor.as_str(),
+        "llreve: a/b.c:1: divisor not a nonzero constant\n"
+    );
     let variables = rule(alloc, CheckFault::ManyVariables(65))?;
     assert_eq!(rt; variables.as_str(), "llreve: a/b.c: 65 variables\n");
     Ok(())
@@ -129,6 +134,12 @@ fn faults_of_names(rt: HostRuntime) -> Result<(), Fail> {
     };
     let undeclared = rule(alloc, undeclared)?;
     assert_eq!(rt; undeclared.as_str(), "llreve: a/b.c:5: undeclared x\n");
+    let condition = CheckFault::Undeclared {
+        name: name(alloc, "b")?,
+        line: 1,
+    };
+    let condition = line(alloc, Fault::Check(name(alloc, "--pre")?, condition))?;
+    assert_eq!(rt; condition.as_str(), "llreve: --pre:1: undeclared b\n");
     let twice = CheckFault::Twice {
         name: name(alloc, "y")?,
         line: 6,
@@ -207,7 +218,8 @@ fn different_functions(rt: HostRuntime) -> Result<(), Fail> {
     Ok(())
 }
 
-/// A sample as a letter: `A` and `B` have not ended on that side, `a` and `b` are wide there, others are equal.
+/// A sample as a letter: `A` and `B` have not ended on that side, `a` and `b` are wide there, `P`
+/// does not meet the condition, `p` is wide in it, and others are equal.
 fn sample(letter: char) -> Option<Skipped>
     ensures { IsKeptSample result }
 {
@@ -222,6 +234,14 @@ fn sample(letter: char) -> Option<Skipped>
             why: NotEnded,
         }),
         'b' => Some(Skipped { side: B, why: Wide }),
+        'P' => Some(Skipped {
+            side: Pre,
+            why: Unmet,
+        }),
+        'p' => Some(Skipped {
+            side: Pre,
+            why: Wide,
+        }),
         _ => None,
     }
 }
@@ -243,8 +263,12 @@ fn unknown(alloc: Global, letters: &[char]) -> Result<String, AllocError> {
 
 #[test]
 fn unknown_functions(rt: HostRuntime) -> Result<(), Fail> {
-    let rows: [(&[char], &str); 3] = [
+    let rows: [(&[char], &str); 4] = [
         (&[], "unknown\n"),
+        (
+            &['P', 'b', 'p', '=', 'P'],
+            "unknown\nequal 3\nunmet pre 0 4\nwide pre 2\nwide B 1\n",
+        ),
         (
             &['=', '=', 'a', '=', 'a'],
             "unknown\nequal 0-1 3\nwide A 2 4\n",

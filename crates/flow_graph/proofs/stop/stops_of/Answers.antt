@@ -13,10 +13,12 @@ pub loop-op-preserved : goal.loop-op-preserved
 loop-op-preserved c =
     elim c.match-op.branch [
       | in-Mark+in_ok-scope+in_ok-insert w ↦
-          stops_one (program_of c.args.func.now) c.args.ops.now c.loop-op.op-index c.loop-op.stops.items c.match-op.stops.items w.in_ok-scope.field-0.items w.from_vec-scope.result c.op-item.result w.in-Mark.mark
+          stops_one (program_of c.args.func.now) c.args.ops.now c.loop-op.op-index c.loop-op.stops.items c.match-op.stops.items w.in_ok-scope.field-0.items
+          w.from_vec-scope.result c.op-item.result w.in-Mark.mark
           w.in-Mark.next c.requires c.loop-op.invariant c.loop-op-test.true c.op-item.is w.in-Mark.is w.in_ok-scope.ensures w.from_vec-scope.ensures
           (ap (λ stops. stops.items) w.stops-is ∙ w.in_ok-insert.ensures)
       | in_default w ↦
-          stops_other (program_of c.args.func.now) c.args.ops.now c.loop-op.op-index c.loop-op.stops.items c.match-op.stops.items c.op-item.result c.loop-op.invariant c.loop-op-test.true c.op-item.is
+          stops_other (program_of c.args.func.now) c.args.ops.now c.loop-op.op-index c.loop-op.stops.items c.match-op.stops.items c.op-item.result
+          c.loop-op.invariant c.loop-op-test.true c.op-item.is
           w.in_default.not-Mark (ap (λ stops. stops.items) w.stops-is)
     ]

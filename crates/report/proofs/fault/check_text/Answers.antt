@@ -26,5 +26,8 @@ returns-in-MarkRange c = rw c.in-MarkRange.is (IfOk-weaker c.format-in-MarkRange
 pub returns-in-MarkTwice : goal.returns-in-MarkTwice
 returns-in-MarkTwice c = rw c.in-MarkTwice.is (IfOk-weaker c.format-in-MarkTwice.result _ _ (λ text output. simp append_assoc output) c.format-in-MarkTwice.ensures.ok)
 
+pub returns-in-Divisor : goal.returns-in-Divisor
+returns-in-Divisor c = rw c.in-Divisor.is (IfOk-weaker c.format-in-Divisor.result _ _ (λ text output. simp append_assoc output) c.format-in-Divisor.ensures.ok)
+
 pub returns-in-ManyVariables : goal.returns-in-ManyVariables
 returns-in-ManyVariables c = rw c.in-ManyVariables.is (IfOk-weaker c.format-in-ManyVariables.result _ _ (λ text output. simp append_assoc output) c.format-in-ManyVariables.ensures.ok)

@@ -1,5 +1,5 @@
-use Rattle.report.proofs.Runs.{are_runs, no_other_runs}
-use Rattle.report.proofs.laws.law_of_runs.Goals as goal
+use Rattle.report.proofs.Laws.{has_runs, has_no_other_runs}
+use Rattle.report.proofs.law.law_of_runs.Goals as goal
 
 pub returns : goal.returns
-returns c = record { runs = are_runs; no_other = no_other_runs }
+returns c = record { runs = has_runs; no_other = has_no_other_runs }

@@ -9,7 +9,8 @@ pub returns : goal.returns
 returns c =
     let stops = ap (λ (graph : FlowGraph). length graph.stops) c.self.view_is in
     let past : length c.args.self.now.stops ≤ c.loop-stop.stop-index = omega (arith, stops, c.loop-stop-test.false, ap length c.as_slice-stop-items.ensures) in
-    let are = places_listed c.args.self.now.stops c.loop-stop.stop-index c.loop-stop.places.items c.push-2.new.self.items past c.loop-stop.invariant c.in_ok-push-3.ensures.items in
+    let are = places_listed c.args.self.now.stops c.loop-stop.stop-index c.loop-stop.places.items c.push-2.new.self.items past c.loop-stop.invariant
+    c.in_ok-push-3.ensures.items in
     let well_formed : IsFlowGraph c.args.self.now = subst IsFlowGraph c.self.view_is c.self.invariant in
     record {
       places = are;

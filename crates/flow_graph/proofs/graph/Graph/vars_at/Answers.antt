@@ -24,7 +24,8 @@ pub returns-after-loop-x : goal.returns-after-loop-x
 returns-after-loop-x c =
     let params : c.self.inside.params ≡ c.args.self.now.params = ap (λ (graph : FlowGraph). graph.params) c.self.view_is in
     let well_formed : IsFlowGraph c.args.self.now = subst IsFlowGraph c.self.view_is c.self.invariant in
-    let all = parameters_listed c.args.self.now.params c.args.self.now.vars c.loop-x.x c.loop-x.variables.items (omega (arith, params, c.loop-x-test.false)) c.loop-x.invariant
+    let all = parameters_listed c.args.self.now.params c.args.self.now.vars c.loop-x.x c.loop-x.variables.items (omega (arith, params, c.loop-x-test.false))
+    c.loop-x.invariant
     ∙ sym (ap (variables_at c.args.self.now) c.in-Entry.is) in
     let both = listed c.args.self.now well_formed c.args.place c.loop-x.variables.items all in
     record { listed = both.0; rising = both.1 }
