@@ -1,20 +1,21 @@
 -- The items that are left when some words were read.
 use Rattle.std.proofs.Common.{◌≡◌, ◌≢◌, ◌+◌, ◌++◌, ℕ, suc, Bool, true, false, List, [], ◌∷◌, Option, Some, None, refl, sym, ap, ◌∙◌, subst, arith}
 use Rattle.std.specs.Prelude.{if◌then◌else◌, option_to_list, option_map, is_some}
+use Rattle.c_ast.specs.Bounds.{AreBounds}
 use Rattle.command_line.specs.declared.setting.Setting.{Setting}
 use Rattle.command_line.specs.declared.setting.Setting.TheVariants.{Workers, Samples, Marks, Rows, Seed}
 use Rattle.command_line.specs.declared.given.Given.{Given}
-use Rattle.command_line.specs.declared.given.Files.{Files}
-use Rattle.command_line.specs.declared.given.Files.TheVariants as files
+use Rattle.command_line.specs.declared.given.Operands.{Operands}
+use Rattle.command_line.specs.declared.given.Operands.TheVariants as names
 use Rattle.command_line.specs.declared.words.Command.{Command}
-use Rattle.command_line.specs.CommandLine.{Item, alone, given, operand, operands, switches, numbers, Sets, IsWithin}
-use Rattle.command_line.specs.Read.{number_of, put, with_alone, with_number, with_operand, one_more}
+use Rattle.command_line.specs.CommandLine.{Item, alone, given, condition, operand, operands, switches, conditions, numbers, Sets, AreWorkers}
+use Rattle.command_line.specs.Read.{number_of, put, with_alone, with_number, with_condition, with_operand, one_more}
 
 -- the names so far
-abbrev pub file_list : Files → List (List ℕ)
-file_list files.None = []
-file_list (files.First first) = first ∷ []
-file_list (files.Both first second) = first ∷ second ∷ []
+abbrev pub file_list : Operands → List (List ℕ)
+file_list names.None = []
+file_list (names.First first) = first ∷ []
+file_list (names.Both first second) = first ∷ second ∷ []
 
 -- how often `--alone` stood
 abbrev pub count : Bool → ℕ
@@ -37,12 +38,16 @@ number_in workers command Seed = command.settings.seed
 pub record Makes (now : Given) (items : List Item) (command : Command) (workers : ℕ) : Type 0 where
   pub alone_once : count now.alone + switches items ≡ 1
   pub sets : (setting : Setting) → Sets setting (all_numbers setting now items) (number_in workers command setting)
-  pub names : file_list now.files ++ operands items ≡ command.first ∷ command.second ∷ []
+  pub pre : option_to_list now.condition ++ conditions items ≡ option_to_list command.condition
+  pub within : AreBounds command.settings
+  pub few_workers : AreWorkers workers
+  pub names : file_list now.operands ++ operands items ≡ command.first ∷ command.second ∷ []
 
 -- what was given with one item more
 abbrev pub with_item : Item → Given → Option Given
 with_item alone now = with_alone now
 with_item (given setting number) now = with_number setting number now
+with_item (condition text) now = with_condition text now
 with_item (operand word) now = with_operand word now
 
 -- ---- numbers
@@ -76,11 +81,10 @@ moved_numbers Seed Marks number now items is = refl
 moved_numbers Seed Rows number now items is = refl
 moved_numbers Seed Seed number now items is = rw is refl
 
--- a number among those that set an option is the only one, and in its range
+-- a number among those that set an option is the only one
 sole : (setting : Setting) (so_far : Option ℕ) (number set : ℕ) (others : List ℕ) → Sets setting (option_to_list so_far ++ number ∷ others) set
-    → (so_far ≡ None) × IsWithin setting number
-sole setting None number set [] sets = (refl, subst (IsWithin setting) sets.0 sets.1)
-sole setting None number set (other ∷ others) sets = absurd sets
+    → so_far ≡ None
+sole setting None number set others sets = refl
 sole setting (Some first) number set others sets = absurd sets
 
 own_numbers : (setting : Setting) (number : ℕ) (items : List Item) → numbers setting (given setting number ∷ items) ≡ number ∷ numbers setting items
@@ -90,40 +94,52 @@ own_numbers Marks number items = refl
 own_numbers Rows number items = refl
 own_numbers Seed number items = refl
 
+-- ---- conditions
+
+-- a text among those of one condition at most is the only one
+sole_text : (so_far given_text : Option (List ℕ)) (text : List ℕ) (others : List (List ℕ)) → option_to_list so_far ++ text ∷ others ≡ option_to_list given_text
+    → so_far ≡ None
+sole_text None given_text text others is = refl
+sole_text (Some first) None text others is = absurd cc
+sole_text (Some first) (Some one) text others is = absurd cc
+
 -- ---- operands
 
 no_third : (first second third : List ℕ) (one other : List ℕ) (others : List (List ℕ)) → first ∷ second ∷ third ∷ others ≢ one ∷ other ∷ []
 no_third first second third one other others is = absurd cc
 
-moved_names : (word : List ℕ) (now : Files) (others : List (List ℕ)) (one other : List ℕ) → file_list now ++ word ∷ others ≡ one ∷ other ∷ []
-    → (next : Files) × (one_more word now ≡ Some next) × (file_list next ++ others ≡ one ∷ other ∷ [])
-moved_names word files.None others one other is = (files.First word, refl, is)
-moved_names word (files.First first) others one other is = (files.Both first word, refl, is)
-moved_names word (files.Both first second) others one other is = absurd (no_third first second word one other others is)
+moved_names : (word : List ℕ) (now : Operands) (others : List (List ℕ)) (one other : List ℕ) → file_list now ++ word ∷ others ≡ one ∷ other ∷ []
+    → (next : Operands) × (one_more word now ≡ Some next) × (file_list next ++ others ≡ one ∷ other ∷ [])
+moved_names word names.None others one other is = (names.First word, refl, is)
+moved_names word (names.First first) others one other is = (names.Both first word, refl, is)
+moved_names word (names.Both first second) others one other is = absurd (no_third first second word one other others is)
 
-joined_names : (word : List ℕ) (now next : Files) (others : List (List ℕ)) → one_more word now ≡ Some next
+joined_names : (word : List ℕ) (now next : Operands) (others : List (List ℕ)) → one_more word now ≡ Some next
     → file_list now ++ word ∷ others ≡ file_list next ++ others
-joined_names word files.None next others is = let same : files.First word ≡ next = cc in ap (λ l. file_list l ++ others) same
-joined_names word (files.First first) next others is = let same : files.Both first word ≡ next = cc in ap (λ l. file_list l ++ others) same
-joined_names word (files.Both first second) next others is = absurd cc
+joined_names word names.None next others is = let same : names.First word ≡ next = cc in ap (λ l. file_list l ++ others) same
+joined_names word (names.First first) next others is = let same : names.Both first word ≡ next = cc in ap (λ l. file_list l ++ others) same
+joined_names word (names.Both first second) next others is = absurd cc
 
 -- ---- what a step leaves
 
--- numbers stay where `--alone` or an operand is given
-other_numbers : (setting : Setting) (now : Given) (switch : Bool) (names : Files) → number_of setting (record now { alone = switch; files = names }) ≡ number_of setting now
-other_numbers Workers now switch names = refl
-other_numbers Samples now switch names = refl
-other_numbers Marks now switch names = refl
-other_numbers Rows now switch names = refl
-other_numbers Seed now switch names = refl
+-- numbers stay where `--alone`, a condition or an operand is given
+other_numbers : (setting : Setting) (now : Given) (switch : Bool) (text : Option (List ℕ)) (more : Operands)
+    → number_of setting (record now { alone = switch; condition = text; operands = more }) ≡ number_of setting now
+other_numbers Workers now switch text more = refl
+other_numbers Samples now switch text more = refl
+other_numbers Marks now switch text more = refl
+other_numbers Rows now switch text more = refl
+other_numbers Seed now switch text more = refl
 
--- `--alone` and the operands stay where a number is given
-others_stay : (setting : Setting) (number : ℕ) (now : Given) → ((put setting number now).alone ≡ now.alone) × ((put setting number now).files ≡ now.files)
-others_stay Workers number now = (refl, refl)
-others_stay Samples number now = (refl, refl)
-others_stay Marks number now = (refl, refl)
-others_stay Rows number now = (refl, refl)
-others_stay Seed number now = (refl, refl)
+-- `--alone`, the condition and the operands stay where a number is given
+others_stay : (setting : Setting) (number : ℕ) (now : Given)
+    → ((put setting number now).alone ≡ now.alone) × ((put setting number now).condition ≡ now.condition)
+    × ((put setting number now).operands ≡ now.operands)
+others_stay Workers number now = (refl, refl, refl)
+others_stay Samples number now = (refl, refl, refl)
+others_stay Marks number now = (refl, refl, refl)
+others_stay Rows number now = (refl, refl, refl)
+others_stay Seed number now = (refl, refl, refl)
 
 not_before : (before : Bool) (others : ℕ) → count before + suc others ≡ 1 → (before ≡ false) × (others ≡ 0)
 not_before true others once = absurd (omega arith)
@@ -153,42 +169,62 @@ moved alone now items command workers makes =
       rw none refl,
       record {
         alone_once = omega (arith, no_more);
-        sets = λ setting. subst (λ n. Sets setting (option_to_list n ++ numbers setting items) (number_in workers command setting)) (sym (other_numbers setting now true now.files)) (makes.sets setting);
+        sets = λ setting. subst (λ n. Sets setting (option_to_list n ++ numbers setting items) (number_in workers command setting))
+            (sym (other_numbers setting now true now.condition now.operands)) (makes.sets setting);
+        pre = makes.pre;
+        within = makes.within;
+        few_workers = makes.few_workers;
         names = makes.names;
       },
     )
 moved (given setting number) now items command workers makes =
     let own = own_sets setting number now items command workers makes in
     let none : number_of setting now ≡ None =
-    (sole setting (number_of setting now) number (number_in workers command setting) (numbers setting items) own).0 in
+    sole setting (number_of setting now) number (number_in workers command setting) (numbers setting items) own in
     let stay = others_stay setting number now in
     let put_alone : (put setting number now).alone ≡ now.alone = stay.0 in
-    let put_files : (put setting number now).files ≡ now.files = stay.1 in (
+    let put_text : (put setting number now).condition ≡ now.condition = stay.1 in
+    let put_files : (put setting number now).operands ≡ now.operands = stay.2 in (
       put setting number now,
       rw none refl,
       record {
         alone_once = rw put_alone makes.alone_once;
         sets = λ other. subst (λ l. Sets other l (number_in workers command other)) (moved_numbers setting other number now items none) (makes.sets other);
+        pre = rw put_text makes.pre;
+        within = makes.within;
+        few_workers = makes.few_workers;
         names = rw put_files makes.names;
       },
     )
-moved (operand word) now items command workers makes =
-    let next = moved_names word now.files (operands items) command.first command.second makes.names in (
-      record now { files = next.0 },
-      ap (option_map (λ more. record now { files = more })) next.1,
+moved (condition text) now items command workers makes =
+    let none : now.condition ≡ None = sole_text now.condition command.condition text (conditions items) makes.pre in
+    let next : Given = record now { condition = Some text } in (
+      next,
+      rw none refl,
       record {
         alone_once = makes.alone_once;
-        sets = λ setting. subst (λ n. Sets setting (option_to_list n ++ numbers setting items) (number_in workers command setting)) (sym (other_numbers setting now now.alone next.0)) (makes.sets setting);
+        sets = λ setting. subst (λ n. Sets setting (option_to_list n ++ numbers setting items) (number_in workers command setting))
+            (sym (other_numbers setting now now.alone (Some text) now.operands)) (makes.sets setting);
+        pre = rw none at makes.pre;
+        within = makes.within;
+        few_workers = makes.few_workers;
+        names = makes.names;
+      },
+    )
+moved (operand word) now items command workers makes =
+    let next = moved_names word now.operands (operands items) command.first command.second makes.names in (
+      record now { operands = next.0 },
+      ap (option_map (λ more. record now { operands = more })) next.1,
+      record {
+        alone_once = makes.alone_once;
+        sets = λ setting. subst (λ n. Sets setting (option_to_list n ++ numbers setting items) (number_in workers command setting))
+            (sym (other_numbers setting now now.alone now.condition next.0)) (makes.sets setting);
+        pre = makes.pre;
+        within = makes.within;
+        few_workers = makes.few_workers;
         names = next.2;
       },
     )
-
--- the number of an item that is left is in its option's range
-pub item_within : (setting : Setting) (number : ℕ) (now : Given) (items : List Item) (command : Command) (workers : ℕ)
-    → Makes now (given setting number ∷ items) command workers → IsWithin setting number
-item_within setting number now items command workers makes =
-    let own = own_sets setting number now items command workers makes in
-    (sole setting (number_of setting now) number (number_in workers command setting) (numbers setting items) own).1
 
 switched : (before : Bool) (now next : Given) → now.alone ≡ before → (if before then None else Some (record now { alone = true })) ≡ Some next
     → (before ≡ false) × (record now { alone = true } ≡ next)
@@ -199,8 +235,12 @@ numbered : (so_far : Option ℕ) (made next : Given) → (if is_some so_far then
 numbered None made next gives = (refl, cc)
 numbered (Some number) made next gives = absurd cc
 
-named : (now next : Given) (more : Option Files) → option_map (λ names. record now { files = names }) more ≡ Some next
-    → (names : Files) × (more ≡ Some names) × (record now { files = names } ≡ next)
+worded : (so_far : Option (List ℕ)) (made next : Given) → (if is_some so_far then None else Some made) ≡ Some next → (so_far ≡ None) × (made ≡ next)
+worded None made next gives = (refl, cc)
+worded (Some text) made next gives = absurd cc
+
+named : (now next : Given) (more : Option Operands) → option_map (λ names. record now { operands = names }) more ≡ Some next
+    → (names : Operands) × (more ≡ Some names) × (record now { operands = names } ≡ next)
 named now next None gives = absurd cc
 named now next (Some names) gives = (names, refl, cc)
 
@@ -213,7 +253,11 @@ moved_back alone now next items command workers gives makes =
     let made : Makes (record now { alone = true }) items command workers = subst (λ g. Makes g items command workers) (sym before.1) makes in
     record {
       alone_once = rw none (omega (arith, made.alone_once));
-      sets = λ setting. subst (λ n. Sets setting (option_to_list n ++ numbers setting items) (number_in workers command setting)) (other_numbers setting now true now.files) (made.sets setting);
+      sets = λ setting. subst (λ n. Sets setting (option_to_list n ++ numbers setting items) (number_in workers command setting))
+          (other_numbers setting now true now.condition now.operands) (made.sets setting);
+      pre = made.pre;
+      within = made.within;
+      few_workers = made.few_workers;
       names = made.names;
     }
 moved_back (given setting number) now next items command workers gives makes =
@@ -221,17 +265,39 @@ moved_back (given setting number) now next items command workers gives makes =
     let made : Makes (put setting number now) items command workers = subst (λ g. Makes g items command workers) (sym before.1) makes in
     let stay = others_stay setting number now in
     let put_alone : (put setting number now).alone ≡ now.alone = stay.0 in
-    let put_files : (put setting number now).files ≡ now.files = stay.1 in
+    let put_text : (put setting number now).condition ≡ now.condition = stay.1 in
+    let put_files : (put setting number now).operands ≡ now.operands = stay.2 in
     record {
       alone_once = rw put_alone at made.alone_once;
-      sets = λ other. subst (λ l. Sets other l (number_in workers command other)) (sym (moved_numbers setting other number now items before.0)) (made.sets other);
+      sets = λ other. subst (λ l. Sets other l (number_in workers command other)) (sym (moved_numbers setting other number now items before.0))
+          (made.sets other);
+      pre = rw put_text at made.pre;
+      within = made.within;
+      few_workers = made.few_workers;
       names = rw put_files at made.names;
     }
-moved_back (operand word) now next items command workers gives makes =
-    let before = named now next (one_more word now.files) gives in
-    let made : Makes (record now { files = before.0 }) items command workers = subst (λ g. Makes g items command workers) (sym before.2) makes in
+moved_back (condition text) now next items command workers gives makes =
+    let before = worded now.condition (record now { condition = Some text }) next gives in
+    let none : now.condition ≡ None = before.0 in
+    let made : Makes (record now { condition = Some text }) items command workers = subst (λ g. Makes g items command workers) (sym before.1) makes in
     record {
       alone_once = made.alone_once;
-      sets = λ setting. subst (λ n. Sets setting (option_to_list n ++ numbers setting items) (number_in workers command setting)) (other_numbers setting now now.alone before.0) (made.sets setting);
-      names = joined_names word now.files before.0 (operands items) before.1 ∙ made.names;
+      sets = λ setting. subst (λ n. Sets setting (option_to_list n ++ numbers setting items) (number_in workers command setting))
+          (other_numbers setting now now.alone (Some text) now.operands) (made.sets setting);
+      pre = rw none made.pre;
+      within = made.within;
+      few_workers = made.few_workers;
+      names = made.names;
+    }
+moved_back (operand word) now next items command workers gives makes =
+    let before = named now next (one_more word now.operands) gives in
+    let made : Makes (record now { operands = before.0 }) items command workers = subst (λ g. Makes g items command workers) (sym before.2) makes in
+    record {
+      alone_once = made.alone_once;
+      sets = λ setting. subst (λ n. Sets setting (option_to_list n ++ numbers setting items) (number_in workers command setting))
+          (other_numbers setting now now.alone now.condition before.0) (made.sets setting);
+      pre = made.pre;
+      within = made.within;
+      few_workers = made.few_workers;
+      names = joined_names word now.operands before.0 (operands items) before.1 ∙ made.names;
     }

@@ -4,3 +4,4 @@ pub mod Left
 pub mod Steps
 pub mod Whole
 pub mod Samples
+pub mod Laws

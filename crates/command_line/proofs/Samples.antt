@@ -1,14 +1,35 @@
 -- The definitions on small command lines.
-use Rattle.std.proofs.Common.{ℕ, List, [], ◌∷◌, refl, arith}
+use Rattle.std.proofs.Common.{ℕ, List, [], ◌∷◌, Some, None, refl, arith}
 use Rattle.std.specs.Prelude.{codes}
-use Rattle.c_ast.specs.Bounds.{bounds}
+use Rattle.c_ast.specs.Bounds.{AreBounds, bounds}
 use Rattle.command_line.specs.declared.setting.Setting.TheVariants.{Samples, Seed}
+use Rattle.command_line.specs.declared.setting.Valued.TheVariants.{Number, Pre}
 use Rattle.command_line.specs.declared.words.Command.{Command}
-use Rattle.command_line.specs.CommandLine.{alone, given, operand, Writes, end, dashes, plain, switch, joined, apart, IsCommand}
+use Rattle.command_line.specs.CommandLine.{alone, given, condition, operand, Writes, says_number, says_text, end, dashes, plain, switch, joined, apart, IsCommand}
 use Rattle.command_line.proofs.Whole.{unread}
 
 abbrev command : ℕ → ℕ → ℕ → ℕ → List ℕ → List ℕ → Command
-command samples marks rows seed first second = record { settings = bounds samples marks rows seed; first = first; second = second }
+command samples marks rows seed first second = record { settings = bounds samples marks rows seed; condition = None; first = first; second = second }
+
+some_bounds : AreBounds (bounds 100 64 4000 0)
+some_bounds = record {
+  some_samples = omega arith;
+  few_samples = omega arith;
+  some_marks = omega arith;
+  few_marks = omega arith;
+  some_rows = omega arith;
+  few_rows = omega arith;
+}
+
+other_bounds : AreBounds (bounds 7 64 4000 12)
+other_bounds = record {
+  some_samples = omega arith;
+  few_samples = omega arith;
+  some_marks = omega arith;
+  few_marks = omega arith;
+  some_rows = omega arith;
+  few_rows = omega arith;
+}
 
 -- --alone A.c B.c
 no_options : IsCommand (codes "--alone" ∷ codes "A.c" ∷ codes "B.c" ∷ []) (command 100 64 4000 0 (codes "A.c") (codes "B.c"))
@@ -16,38 +37,75 @@ no_options = record {
   items = alone ∷ operand (codes "A.c") ∷ operand (codes "B.c") ∷ [];
   spells = switch _ _ (plain _ _ _ (λ dash. cc) (plain _ _ _ (λ dash. cc) end));
   alone_once = refl;
+  workers = 4;
+  some_workers = refl;
+  few_workers = (omega arith, omega arith);
   samples = refl;
   marks = refl;
   rows = refl;
   seed = refl;
-  workers = 4;
-  some_workers = refl;
+  within = some_bounds;
+  pre = refl;
   files = refl;
   no_make = λ make. cc;
 }
 
 seven : Writes (codes "+07") 7
-seven = ((omega arith, (omega arith, (omega arith, tt))), refl)
+seven = record { numeral = (omega arith, (omega arith, (omega arith, tt))); value = refl; fits = omega arith }
 
 twelve : Writes (codes "12") 12
-twelve = ((omega arith, (omega arith, (omega arith, tt))), refl)
+twelve = record { numeral = (omega arith, (omega arith, (omega arith, tt))); value = refl; fits = omega arith }
 
 -- - --samples=+07 --alone --seed 12 -- --
 mixed : IsCommand (codes "-" ∷ codes "--samples=+07" ∷ codes "--alone" ∷ codes "--seed" ∷ codes "12" ∷ codes "--" ∷ codes "--" ∷ [])
     (command 7 64 4000 12 (codes "-") (codes "--"))
 mixed = record {
   items = operand (codes "-") ∷ given Samples 7 ∷ alone ∷ given Seed 12 ∷ operand (codes "--") ∷ [];
-  spells = plain _ _ _ tt (joined Samples (codes "+07") 7 _ _ seven (switch _ _ (apart Seed (codes "12") 12 _ _ twelve (dashes _))));
+  spells = plain _ _ _ tt
+      (joined (Number Samples) (codes "+07") (given Samples 7) _ _ (says_number Samples _ 7 seven)
+      (switch _ _ (apart (Number Seed) (codes "12") (given Seed 12) _ _ (says_number Seed _ 12 twelve) (λ dash. cc) (dashes _))));
   alone_once = refl;
-  samples = (refl, (omega arith, omega arith));
-  marks = refl;
-  rows = refl;
-  seed = (refl, (omega arith, omega arith));
   workers = 4;
   some_workers = refl;
+  few_workers = (omega arith, omega arith);
+  samples = refl;
+  marks = refl;
+  rows = refl;
+  seed = refl;
+  within = other_bounds;
+  pre = refl;
   files = refl;
   no_make = λ make. cc;
 }
+
+-- --pre=n=-1 A.c --alone B.c
+conditional : IsCommand (codes "--pre=n=-1" ∷ codes "A.c" ∷ codes "--alone" ∷ codes "B.c" ∷ [])
+    (record (command 100 64 4000 0 (codes "A.c") (codes "B.c")) { condition = Some (codes "n=-1") })
+conditional = record {
+  items = condition (codes "n=-1") ∷ operand (codes "A.c") ∷ alone ∷ operand (codes "B.c") ∷ [];
+  spells = joined Pre (codes "n=-1") (condition (codes "n=-1")) _ _ (says_text _ (omega arith, omega arith))
+      (plain _ _ _ (λ dash. cc) (switch _ _ (plain _ _ _ (λ dash. cc) end)));
+  alone_once = refl;
+  workers = 4;
+  some_workers = refl;
+  few_workers = (omega arith, omega arith);
+  samples = refl;
+  marks = refl;
+  rows = refl;
+  seed = refl;
+  within = some_bounds;
+  pre = refl;
+  files = refl;
+  no_make = λ make. cc;
+}
+
+-- --alone A.c B.c --pre -n
+condition_with_dash : (any : Command) → ¬ IsCommand (codes "--alone" ∷ codes "A.c" ∷ codes "B.c" ∷ codes "--pre" ∷ codes "-n" ∷ []) any
+condition_with_dash = unread (codes "--alone" ∷ codes "A.c" ∷ codes "B.c" ∷ codes "--pre" ∷ codes "-n" ∷ []) refl
+
+-- --pre= A.c --alone B.c
+no_text : (any : Command) → ¬ IsCommand (codes "--pre=" ∷ codes "A.c" ∷ codes "--alone" ∷ codes "B.c" ∷ []) any
+no_text = unread (codes "--pre=" ∷ codes "A.c" ∷ codes "--alone" ∷ codes "B.c" ∷ []) refl
 
 -- --alone= A.c B.c
 faulty_switch : (any : Command) → ¬ IsCommand (codes "--alone=" ∷ codes "A.c" ∷ codes "B.c" ∷ []) any

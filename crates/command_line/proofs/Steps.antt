@@ -1,26 +1,27 @@
 -- One word: what it leaves to be read, both ways.
-use Rattle.std.proofs.Common.{◌≡◌, ◌<◌, ℕ, List, ◌∷◌, map, Option, Some, None, refl, sym, ap, ◌∙◌, subst, arith}
-use Rattle.std.specs.Prelude.{codes, option_map, option_and_then}
+use Rattle.std.proofs.Common.{◌≡◌, ℕ, Bool, true, false, List, ◌∷◌, map, Option, Some, None, refl, sym, ap, ◌∙◌, subst}
+use Rattle.std.specs.Prelude.{codes, if◌then◌else◌, option_map, option_and_then}
 use Rattle.command_line.specs.declared.setting.Setting.{Setting}
-use Rattle.command_line.specs.declared.setting.Setting.TheVariants.{Workers, Samples, Marks, Rows, Seed}
+use Rattle.command_line.specs.declared.setting.Valued.{Valued}
+use Rattle.command_line.specs.declared.setting.Valued.TheVariants.{Number, Pre}
 use Rattle.command_line.specs.declared.given.Given.{Given}
 use Rattle.command_line.specs.declared.reading.Reading.{Reading}
 use Rattle.command_line.specs.declared.reading.Expects.{Expects}
 use Rattle.command_line.specs.declared.reading.Expects.TheVariants as expects
 use Rattle.command_line.specs.declared.words.Command.{Command}
-use Rattle.command_line.specs.CommandLine.{name_of, Item, alone, given, operand, Writes, IsWithin, Spells, dashes, plain, switch, joined, apart}
+use Rattle.command_line.specs.CommandLine.{name_of, Item, alone, given, condition, operand, HasNoDash, SpellsValue, says_number, says_text, Spells, dashes, plain, switch, joined, apart}
 use Rattle.command_line.specs.Read as read
-use Rattle.command_line.specs.Read.{WordKind, kind_of, value_of, with_alone, with_number, with_value, with_operand, reading, word_step, expected_step, step}
-use Rattle.command_line.proofs.Values.{value_writes, written_value}
+use Rattle.command_line.specs.Read.{WordKind, kind_of, value_of, is_condition, begins_with_dash, with_alone, with_number, with_written, with_condition, with_text, with_value, with_operand, reading, word_step, expected_step, step}
+use Rattle.command_line.proofs.Values.{value_writes, written_value, condition_text, without_dash, dash_missing}
 use Rattle.command_line.proofs.WordKinds.{kind_of-joined, kind_of-apart, kind_of-operand, KindSays, kind_of-says}
-use Rattle.command_line.proofs.Left.{Makes, moved, moved_back, item_within}
+use Rattle.command_line.proofs.Left.{Makes, with_item, moved, moved_back}
 
 -- The words spell the items, by what the first word is taken for.
 pub data SpellsFrom : Expects → List (List ℕ) → List Item → Type 0 where
   at_word : (words : List (List ℕ)) (items : List Item) → Spells words items → SpellsFrom expects.Word words items
   at_operand : (words : List (List ℕ)) → SpellsFrom expects.Operand words (map operand words)
-  at_value : (setting : Setting) (value : List ℕ) (number : ℕ) (words : List (List ℕ)) (items : List Item) → Writes value number → Spells words items
-      → SpellsFrom (expects.Value setting) (value ∷ words) (given setting number ∷ items)
+  at_value : (option : Valued) (value : List ℕ) (item : Item) (words : List (List ℕ)) (items : List Item) → SpellsValue option value item → HasNoDash value
+      → Spells words items → SpellsFrom (expects.Value option) (value ∷ words) (item ∷ items)
 
 -- What was given and the words that are left make the command.
 pub record IsLeft (now : Reading) (words : List (List ℕ)) (command : Command) (workers : ℕ) : Type 0 where
@@ -36,19 +37,12 @@ pub record Steps (word : List ℕ) (words : List (List ℕ)) (now : Reading) (co
   pub steps : step word now ≡ Some next
   pub left : IsLeft next words command workers
 
-in_range : (setting : Setting) (number : ℕ) → IsWithin setting number → number < 18446744073709551616
-in_range Workers number within = omega (arith, within.1)
-in_range Samples number within = omega (arith, within.1)
-in_range Marks number within = omega (arith, within.1)
-in_range Rows number within = omega (arith, within.1)
-in_range Seed number within = omega (arith, within.1)
-
--- the value of an item that is left is put
-put_value : (setting : Setting) (value : List ℕ) (number : ℕ) (now next : Given) (items : List Item) (command : Command) (workers : ℕ) → Writes value number
-    → Makes now (given setting number ∷ items) command workers → with_number setting number now ≡ Some next → with_value setting value now ≡ Some next
-put_value setting value number now next items command workers writes makes puts =
-    let found = written_value value number writes (in_range setting number (item_within setting number now items command workers makes)) in
-    ap (option_and_then (λ n. with_number setting n now)) found ∙ puts
+-- the value of an item is put
+put_value : (option : Valued) (value : List ℕ) (item : Item) (now next : Given) → SpellsValue option value item → with_item item now ≡ Some next
+    → with_value option value now ≡ Some next
+put_value _ value _ now next (says_number setting _ number writes) puts =
+    ap (option_and_then (λ n. with_number setting n now)) (written_value value number writes) ∙ puts
+put_value _ value _ now next (says_text _ is) puts = rw ((condition_text value).1 is) puts
 
 -- a word that says what the first item is
 by_item : (word : List ℕ) (words : List (List ℕ)) (now next : Given) (expected after : Expects) (items : List Item) (command : Command) (workers : ℕ)
@@ -78,16 +72,21 @@ spelled word words now _ command workers (switch _ items spells) makes =
     let next = moved alone now items command workers makes in
     by_item (codes "--alone") words now next.0 expects.Word expects.Word items command workers (with_alone now)
     refl next.1 (at_word words items spells) next.2
-spelled word words now _ command workers (joined setting value number _ items writes spells) makes =
-    let next = moved (given setting number) now items command workers makes in
-    by_item word words now next.0 expects.Word expects.Word items command workers (with_value setting value now)
-    (of_kind word now (read.joined setting value) (kind_of-joined setting value))
-    (put_value setting value number now next.0 items command workers writes makes next.1) (at_word words items spells) next.2
-spelled word _ now _ command workers (apart setting value number words items writes spells) makes = record {
-  next = reading (expects.Value setting) now;
-  steps = of_kind word now (read.apart setting) (kind_of-apart setting);
-  left = record { items = given setting number ∷ items; spells = at_value setting value number words items writes spells; makes = makes };
+spelled word words now _ command workers (joined option value item _ items says spells) makes =
+    let next = moved item now items command workers makes in
+    by_item word words now next.0 expects.Word expects.Word items command workers (with_value option value now)
+    (of_kind word now (read.joined option value) (kind_of-joined option value))
+    (put_value option value item now next.0 says next.1) (at_word words items spells) next.2
+spelled word _ now _ command workers (apart option value item words items says no_dash spells) makes = record {
+  next = reading (expects.Value option) now;
+  steps = of_kind word now (read.apart option) (kind_of-apart option);
+  left = record { items = item ∷ items; spells = at_value option value item words items says no_dash spells; makes = makes };
 }
+
+-- a value that begins with no dash is taken
+taken_value : (option : Valued) (word : List ℕ) (now : Given) → HasNoDash word
+    → expected_step (expects.Value option) word now ≡ option_map (reading expects.Word) (with_value option word now)
+taken_value option word now no_dash = rw (without_dash word no_dash) refl
 
 by_expected : (word : List ℕ) (words : List (List ℕ)) (now : Given) (expected : Expects) (items : List Item) (command : Command) (workers : ℕ)
     → SpellsFrom expected (word ∷ words) items → Makes now items command workers → Steps word words (reading expected now) command workers
@@ -95,10 +94,10 @@ by_expected word words now _ items command workers (at_word _ _ spells) makes = 
 by_expected word words now _ _ command workers (at_operand _) makes =
     let next = moved (operand word) now (map operand words) command workers makes in
     by_item word words now next.0 expects.Operand expects.Operand (map operand words) command workers (with_operand word now) refl next.1 (at_operand words) next.2
-by_expected word words now _ _ command workers (at_value setting _ number _ items writes spells) makes =
-    let next = moved (given setting number) now items command workers makes in
-    by_item word words now next.0 (expects.Value setting) expects.Word items command workers (with_value setting word now) refl
-    (put_value setting word number now next.0 items command workers writes makes next.1) (at_word words items spells) next.2
+by_expected word words now _ _ command workers (at_value option _ item _ items says no_dash spells) makes =
+    let next = moved item now items command workers makes in
+    by_item word words now next.0 (expects.Value option) expects.Word items command workers (with_value option word now) (taken_value option word now no_dash)
+    (put_value option word item now next.0 says next.1) (at_word words items spells) next.2
 
 -- what is left is read
 pub left_steps : (word : List ℕ) (words : List (List ℕ)) (now : Reading) (command : Command) (workers : ℕ) → IsLeft now (word ∷ words) command workers
@@ -126,33 +125,48 @@ left_items now words command workers left = by left.items left.spells left.makes
         → (items : List Item) × Spells words items × Makes now items command workers
     by items (at_word _ _ spells) makes = (items, spells, makes)
 
-back_value : (setting : Setting) (word : List ℕ) (words : List (List ℕ)) (now made : Given) (command : Command) (workers : ℕ)
-    → with_value setting word now ≡ Some made → IsLeft (reading expects.Word made) words command workers
-    → (number : ℕ) × (items : List Item) × Writes word number × Spells words items × Makes now (given setting number ∷ items) command workers
-back_value setting word words now made command workers puts left =
+worded : (test : Bool) (more : Option Given) (made : Given) → (if test then more else None) ≡ Some made → (test ≡ true) × (more ≡ Some made)
+worded true more made puts = (refl, puts)
+worded false more made puts = absurd cc
+
+-- a value that was put says an item
+said : (option : Valued) (word : List ℕ) (now made : Given) → with_value option word now ≡ Some made
+    → (item : Item) × SpellsValue option word item × (with_item item now ≡ Some made)
+said (Number setting) word now made puts =
     let value = chained setting now made (value_of word) puts in
+    (given setting value.0, says_number setting word value.0 (value_writes word value.0 value.1), value.2)
+said Pre word now made puts =
+    let put = worded (is_condition word) (with_condition word now) made puts in
+    (condition word, says_text word ((condition_text word).0 put.0), put.1)
+
+back_value : (option : Valued) (word : List ℕ) (words : List (List ℕ)) (now made : Given) (command : Command) (workers : ℕ)
+    → with_value option word now ≡ Some made → IsLeft (reading expects.Word made) words command workers
+    → (item : Item) × (items : List Item) × SpellsValue option word item × Spells words items × Makes now (item ∷ items) command workers
+back_value option word words now made command workers puts left =
+    let item = said option word now made puts in
     let items = left_items made words command workers left in
-    (value.0, items.0, value_writes word value.0 value.1, items.1, moved_back (given setting value.0) now made items.0 command workers value.2 items.2)
+    (item.0, items.0, item.1, items.1, moved_back item.0 now made items.0 command workers item.2 items.2)
 
 -- after `--` each word that is left is an operand
 dashed : (now : Given) (words : List (List ℕ)) (command : Command) (workers : ℕ) → IsLeft (reading expects.Operand now) words command workers
     → Makes now (map operand words) command workers
 dashed now words command workers left = by words left.items left.spells left.makes
   where
-    by : (words : List (List ℕ)) (items : List Item) → SpellsFrom expects.Operand words items → Makes now items command workers → Makes now (map operand words) command workers
+    by : (words : List (List ℕ)) (items : List Item) → SpellsFrom expects.Operand words items → Makes now items command workers
+        → Makes now (map operand words) command workers
     by words _ (at_operand _) makes = makes
 
 -- an option without its value stood before the words
-awaited : (setting : Setting) (word : List ℕ) (words : List (List ℕ)) (now : Given) (command : Command) (workers : ℕ) → word ≡ name_of setting
-    → IsLeft (reading (expects.Value setting) now) words command workers → IsLeft (reading expects.Word now) (word ∷ words) command workers
-awaited setting word words now command workers says left = by words left.items left.spells left.makes
+awaited : (option : Valued) (word : List ℕ) (words : List (List ℕ)) (now : Given) (command : Command) (workers : ℕ) → word ≡ name_of option
+    → IsLeft (reading (expects.Value option) now) words command workers → IsLeft (reading expects.Word now) (word ∷ words) command workers
+awaited option word words now command workers says left = by words left.items left.spells left.makes
   where
-    by : (words : List (List ℕ)) (items : List Item) → SpellsFrom (expects.Value setting) words items → Makes now items command workers
+    by : (words : List (List ℕ)) (items : List Item) → SpellsFrom (expects.Value option) words items → Makes now items command workers
         → IsLeft (reading expects.Word now) (word ∷ words) command workers
-    by _ _ (at_value _ value number words items writes spells) makes = record {
-      items = given setting number ∷ items;
-      spells = at_word (word ∷ value ∷ words) (given setting number ∷ items)
-          (subst (λ w. Spells (w ∷ value ∷ words) (given setting number ∷ items)) (sym says) (apart setting value number words items writes spells));
+    by _ _ (at_value _ value item words items spelt no_dash spells) makes = record {
+      items = item ∷ items;
+      spells = at_word (word ∷ value ∷ words) (item ∷ items)
+          (subst (λ w. Spells (w ∷ value ∷ words) (item ∷ items)) (sym says) (apart option value item words items spelt no_dash spells));
       makes = makes;
     }
 
@@ -181,30 +195,35 @@ back_word read.switch word words now next command workers says steps left =
       spells = at_word (word ∷ words) (alone ∷ items.0) (subst (λ w. Spells (w ∷ words) (alone ∷ items.0)) (sym says) (switch words items.0 items.1));
       makes = moved_back alone now made.0 items.0 command workers made.1 items.2;
     }
-back_word (read.joined setting value) word words now next command workers says steps left =
-    let made = mapped expects.Word (with_value setting value now) next steps in
-    let back = back_value setting value words now made.0 command workers made.1 (subst (λ n. IsLeft n words command workers) (sym made.2) left) in
+back_word (read.joined option value) word words now next command workers says steps left =
+    let made = mapped expects.Word (with_value option value now) next steps in
+    let back = back_value option value words now made.0 command workers made.1 (subst (λ n. IsLeft n words command workers) (sym made.2) left) in
     record {
-      items = given setting back.0 ∷ back.1;
-      spells = at_word (word ∷ words) (given setting back.0 ∷ back.1)
-          (subst (λ w. Spells (w ∷ words) (given setting back.0 ∷ back.1)) (sym says) (joined setting value back.0 words back.1 back.2 back.3));
+      items = back.0 ∷ back.1;
+      spells = at_word (word ∷ words) (back.0 ∷ back.1)
+          (subst (λ w. Spells (w ∷ words) (back.0 ∷ back.1)) (sym says) (joined option value back.0 words back.1 back.2 back.3));
       makes = back.4;
     }
-back_word (read.apart setting) word words now next command workers says steps left =
-    let same : reading (expects.Value setting) now ≡ next = cc in
-    awaited setting word words now command workers says (subst (λ n. IsLeft n words command workers) (sym same) left)
+back_word (read.apart option) word words now next command workers says steps left =
+    let same : reading (expects.Value option) now ≡ next = cc in
+    awaited option word words now command workers says (subst (λ n. IsLeft n words command workers) (sym same) left)
 back_word read.unknown word words now next command workers says steps left = absurd cc
+
+untested : (test : Bool) (more : Option Reading) (next : Reading) → (if test then None else more) ≡ Some next → (test ≡ false) × (more ≡ Some next)
+untested true more next steps = absurd cc
+untested false more next steps = (refl, steps)
 
 back_expected : (expected : Expects) (word : List ℕ) (words : List (List ℕ)) (now : Given) (next : Reading) (command : Command) (workers : ℕ)
     → expected_step expected word now ≡ Some next → IsLeft next words command workers → IsLeft (reading expected now) (word ∷ words) command workers
 back_expected expects.Word word words now next command workers steps left =
     back_word (kind_of word) word words now next command workers (kind_of-says word) steps left
-back_expected (expects.Value setting) word words now next command workers steps left =
-    let made = mapped expects.Word (with_value setting word now) next steps in
-    let back = back_value setting word words now made.0 command workers made.1 (subst (λ n. IsLeft n words command workers) (sym made.2) left) in
+back_expected (expects.Value option) word words now next command workers steps left =
+    let taken = untested (begins_with_dash word) (option_map (reading expects.Word) (with_value option word now)) next steps in
+    let made = mapped expects.Word (with_value option word now) next taken.1 in
+    let back = back_value option word words now made.0 command workers made.1 (subst (λ n. IsLeft n words command workers) (sym made.2) left) in
     record {
-      items = given setting back.0 ∷ back.1;
-      spells = at_value setting word back.0 words back.1 back.2 back.3;
+      items = back.0 ∷ back.1;
+      spells = at_value option word back.0 words back.1 back.2 (dash_missing word taken.0) back.3;
       makes = back.4;
     }
 back_expected expects.Operand word words now next command workers steps left =

@@ -1,15 +1,14 @@
 -- What is read word by word is what the words spell, both ways.
 use Rattle.std.proofs.Common.{◌≡◌, ◌≢◌, ◌≤◌, ◌++◌, ℕ, Bool, true, false, List, [], ◌∷◌, Option, Some, None, refl, sym, ap, ◌∙◌, subst, arith, true≢false}
-use Rattle.std.specs.Prelude.{map, drop, length, get_or, ◌<◌, ◌+◌, String, string_bytes, codes, bytes_eq, Decides, if◌then◌else◌, option_and_then, option_to_list, nat_le}
-use Rattle.std.proofs.lemmas.Bool.Decides.{nat_tests, Decides-and}
+use Rattle.std.specs.Prelude.{map, drop, length, get_or, ◌<◌, ◌+◌, String, string_bytes, codes, bytes_eq, if◌then◌else◌, option_and_then, option_to_list}
 use Rattle.std.proofs.lemmas.List.{drop_more, drop_all}
 use Rattle.std.proofs.lemmas.Slice.Eq.{bytes_eq-Decides}
-use Rattle.c_ast.specs.Bounds.{bounds}
+use Rattle.c_ast.specs.Bounds.{Bounds, bounds}
 use Rattle.command_line.specs.declared.setting.Setting.{Setting}
 use Rattle.command_line.specs.declared.setting.Setting.TheVariants.{Workers, Samples, Marks, Rows, Seed}
 use Rattle.command_line.specs.declared.given.Given.{Given}
-use Rattle.command_line.specs.declared.given.Files.{Files}
-use Rattle.command_line.specs.declared.given.Files.TheVariants as files
+use Rattle.command_line.specs.declared.given.Operands.{Operands}
+use Rattle.command_line.specs.declared.given.Operands.TheVariants as names
 use Rattle.command_line.specs.declared.reading.Reading.{Reading}
 use Rattle.command_line.specs.declared.reading.Expects.{Expects}
 use Rattle.command_line.specs.declared.reading.Expects.TheVariants as expects
@@ -17,9 +16,9 @@ use Rattle.command_line.specs.declared.words.Command.{Command}
 use Rattle.command_line.specs.declared.words.NoCommand.{NoCommand}
 use Rattle.command_line.specs.declared.words.NoCommand.TheVariants.{Usage, Memory}
 use Rattle.command_line.specs.Refused.{IsNoCommand}
-use Rattle.command_line.specs.CommandLine.{Item, end, numbers, Sets, IsWithin, least_of, greatest_of, IsCommand, IsOneCommand, dashes, plain, switch, joined, apart}
+use Rattle.command_line.specs.CommandLine.{Item, end, numbers, Sets, AreWorkers, IsCommand, IsOneCommand, dashes, plain, switch, joined, apart}
 use Rattle.command_line.specs.Read.{Refuses, nothing, number_of, reading, start, step, read}
-use Rattle.command_line.specs.Says.{is_within, chosen, command_of, SaysNumbers, IsEnd, Ends}
+use Rattle.command_line.specs.Says.{chosen, chosen_of, command_of, SaysNumbers, IsEnd, Ends}
 use Rattle.command_line.proofs.Left.{Makes, file_list, count, number_in}
 use Rattle.command_line.proofs.Steps.{SpellsFrom, at_word, at_operand, at_value, IsLeft, left_steps, steps_left}
 
@@ -50,29 +49,18 @@ read_left (word ∷ words) now last command workers reads left =
 
 -- ---- the options' numbers
 
-within : (setting : Setting) (number : ℕ) → Decides (is_within setting number) (IsWithin setting number)
-within setting number =
-    Decides-and (nat_le (least_of setting) number) (nat_le number (greatest_of setting))
-    (λ e. grind (arith, nat_tests), λ le. grind (arith, nat_tests)) (λ e. grind (arith, nat_tests), λ le. grind (arith, nat_tests))
-
 -- a number that was chosen is set, and the other way round
-chosen_sets : (setting : Setting) (so_far : Option ℕ) (number : ℕ) → chosen setting so_far ≡ Some number → Sets setting (option_to_list so_far ++ []) number
-chosen_sets setting None number is = cc
-chosen_sets setting (Some given) number is = by (is_within setting given) refl is
-  where
-    by : (test : Bool) → is_within setting given ≡ test → (if test then Some given else None) ≡ Some number → (number ≡ given) × IsWithin setting number
-    by true in_range is = let same : given ≡ number = cc in (sym same, subst (IsWithin setting) same ((within setting given).0 in_range))
-    by false in_range is = absurd cc
+chosen_sets : (setting : Setting) (so_far : Option ℕ) (number : ℕ) → chosen setting so_far ≡ number → Sets setting (option_to_list so_far ++ []) number
+chosen_sets setting None number is = sym is
+chosen_sets setting (Some given) number is = sym is
 
-sets_chosen : (setting : Setting) (so_far : Option ℕ) (number : ℕ) → Sets setting (option_to_list so_far ++ []) number → chosen setting so_far ≡ Some number
-sets_chosen setting None number sets = ap Some (sym sets)
-sets_chosen setting (Some given) number sets =
-    let in_range : is_within setting given ≡ true = (within setting given).1 (subst (IsWithin setting) sets.0 sets.1) in
-    rw in_range (ap Some (sym sets.0))
+sets_chosen : (setting : Setting) (so_far : Option ℕ) (number : ℕ) → Sets setting (option_to_list so_far ++ []) number → chosen setting so_far ≡ number
+sets_chosen setting None number sets = sym sets
+sets_chosen setting (Some given) number sets = sym sets
 
 says_sets : (now : Given) (command : Command) (numbers : SaysNumbers now command.settings) (setting : Setting)
-    → Sets setting (option_to_list (number_of setting now) ++ []) (number_in numbers.workers command setting)
-says_sets now command numbers Workers = chosen_sets Workers now.workers numbers.workers numbers.some_workers
+    → Sets setting (option_to_list (number_of setting now) ++ []) (number_in (chosen_of Workers now) command setting)
+says_sets now command numbers Workers = chosen_sets Workers now.workers (chosen_of Workers now) refl
 says_sets now command numbers Samples = chosen_sets Samples now.samples command.settings.samples numbers.samples
 says_sets now command numbers Marks = chosen_sets Marks now.marks command.settings.marks numbers.marks
 says_sets now command numbers Rows = chosen_sets Rows now.rows command.settings.rows numbers.rows
@@ -80,36 +68,52 @@ says_sets now command numbers Seed = chosen_sets Seed now.seed command.settings.
 
 -- ---- the files
 
--- the command's files are the two names, and the first is not `make`
-pub command_names : (now : Files) (command : Command) → command_of command.settings now ≡ Some command
-    → (file_list now ++ [] ≡ command.first ∷ command.second ∷ []) × (command.first ≢ codes "make")
-command_names files.None command is = absurd cc
-command_names (files.First first) command is = absurd cc
-command_names (files.Both first second) command is = by (bytes_eq first (codes "make")) refl is
+-- the command of two files
+abbrev made_of : Bounds → Option (List ℕ) → List ℕ → List ℕ → Command
+made_of numbers text first second = record { settings = numbers; condition = text; first = first; second = second }
+
+-- the command's files are the two names, the first is not `make`, and its condition is the one that was given
+pub command_names : (now : Operands) (text : Option (List ℕ)) (command : Command) → command_of command.settings text now ≡ Some command
+    → (file_list now ++ [] ≡ command.first ∷ command.second ∷ []) × (command.first ≢ codes "make") × (text ≡ command.condition)
+command_names names.None text command is = absurd cc
+command_names (names.First first) text command is = absurd cc
+command_names (names.Both first second) text command is = by (bytes_eq first (codes "make")) refl is
   where
     by : (test : Bool) → bytes_eq first (codes "make") ≡ test
-        → (if test then None else Some (record { settings = command.settings; first = first; second = second })) ≡ Some command
-        → (first ∷ second ∷ [] ≡ command.first ∷ command.second ∷ []) × (command.first ≢ codes "make")
+        → (if test then None else Some (made_of command.settings text first second)) ≡ Some command
+        → (first ∷ second ∷ [] ≡ command.first ∷ command.second ∷ []) × (command.first ≢ codes "make") × (text ≡ command.condition)
     by true make is = absurd cc
     by false make is =
-        let same : record { settings = command.settings; first = first; second = second } ≡ command = cc in (
+        let same : made_of command.settings text first second ≡ command = cc in (
           ap (λ (c : Command). c.first ∷ c.second ∷ []) same,
           λ e. true≢false (sym ((bytes_eq-Decides first (codes "make")).1 (ap (λ (c : Command). c.first) same ∙ e)) ∙ make),
+          ap (λ (c : Command). c.condition) same,
         )
 
-pub names_command : (now : Files) (command : Command) → file_list now ++ [] ≡ command.first ∷ command.second ∷ [] → command.first ≢ codes "make"
-    → command_of command.settings now ≡ Some command
-names_command files.None command is no_make = absurd cc
-names_command (files.First first) command is no_make = absurd cc
-names_command (files.Both first second) command is no_make =
+pub names_command : (now : Operands) (text : Option (List ℕ)) (command : Command) → file_list now ++ [] ≡ command.first ∷ command.second ∷ []
+    → command.first ≢ codes "make" → text ≡ command.condition → command_of command.settings text now ≡ Some command
+names_command names.None text command is no_make texts = absurd cc
+names_command (names.First first) text command is no_make texts = absurd cc
+names_command (names.Both first second) text command is no_make texts =
     let firsts : first ≡ command.first = cc in
     let seconds : second ≡ command.second = cc in
-    rw (firsts, seconds) (by (bytes_eq command.first (codes "make")) refl)
+    rw (firsts, seconds, texts) (by (bytes_eq command.first (codes "make")) refl)
   where
     by : (test : Bool) → bytes_eq command.first (codes "make") ≡ test
-        → (if test then None else Some (record { settings = command.settings; first = command.first; second = command.second })) ≡ Some command
+        → (if test then None else Some (made_of command.settings command.condition command.first command.second)) ≡ Some command
     by true make = absurd (no_make ((bytes_eq-Decides command.first (codes "make")).0 make))
     by false make = refl
+
+-- a text, or none, is found in its list
+one_text : (a b : Option (List ℕ)) → option_to_list a ++ [] ≡ option_to_list b → a ≡ b
+one_text None None is = refl
+one_text None (Some y) is = absurd cc
+one_text (Some x) None is = absurd cc
+one_text (Some x) (Some y) is = cc
+
+text_list : (a : Option (List ℕ)) → option_to_list a ++ [] ≡ option_to_list a
+text_list None = refl
+text_list (Some x) = refl
 
 -- ---- the end of the words
 
@@ -120,7 +124,7 @@ alone_given false once = absurd cc
 at_end : (now : Given) (command : Command) (workers : ℕ) (expected : Expects) → IsEnd expected → Makes now [] command workers
     → IsLeft (reading expected now) [] command workers
 at_end now command workers expects.Word ended makes = record { items = []; spells = at_word [] [] end; makes = makes }
-at_end now command workers (expects.Value setting) ended makes = absurd ended
+at_end now command workers (expects.Value option) ended makes = absurd ended
 at_end now command workers expects.Operand ended makes = record { items = []; spells = at_operand []; makes = makes }
 
 ended_at : (now : Given) (command : Command) (workers : ℕ) (expected : Expects) (words : List (List ℕ)) (items : List Item) → words ≡ []
@@ -130,22 +134,26 @@ ended_at now command workers _ _ _ none (at_word _ _ (dashes _)) makes = absurd 
 ended_at now command workers _ _ _ none (at_word _ _ (plain _ _ _ _ _)) makes = absurd cc
 ended_at now command workers _ _ _ none (at_word _ _ (switch _ _ _)) makes = absurd cc
 ended_at now command workers _ _ _ none (at_word _ _ (joined _ _ _ _ _ _ _)) makes = absurd cc
-ended_at now command workers _ _ _ none (at_word _ _ (apart _ _ _ _ _ _ _)) makes = absurd cc
+ended_at now command workers _ _ _ none (at_word _ _ (apart _ _ _ _ _ _ _ _)) makes = absurd cc
 ended_at now command workers _ _ _ none (at_operand []) makes = (tt, makes)
 ended_at now command workers _ _ _ none (at_operand (word ∷ words)) makes = absurd cc
-ended_at now command workers _ _ _ none (at_value _ _ _ _ _ _ _) makes = absurd cc
+ended_at now command workers _ _ _ none (at_value _ _ _ _ _ _ _ _) makes = absurd cc
 
 ends_left : (last : Reading) (command : Command) → Ends last command → (workers : ℕ) × IsLeft last [] command workers × (command.first ≢ codes "make")
 ends_left last command ends =
     let says = ends.says in
-    let names = command_names last.given.files command says.files in
+    let names = command_names last.given.operands last.given.condition command says.files in
     let switch_given : last.given.alone ≡ true = says.alone in
-    let makes : Makes last.given [] command says.numbers.workers = record {
+    let workers = chosen_of Workers last.given in
+    let makes : Makes last.given [] command workers = record {
       alone_once = rw switch_given refl;
       sets = says_sets last.given command says.numbers;
+      pre = text_list last.given.condition ∙ ap option_to_list names.2;
+      within = says.numbers.within;
+      few_workers = says.numbers.workers;
       names = names.0;
     } in
-    (says.numbers.workers, at_end last.given command says.numbers.workers last.expects ends.end makes, names.1)
+    (workers, at_end last.given command workers last.expects ends.end makes, names.1)
 
 left_ends : (last : Reading) (command : Command) (workers : ℕ) → IsLeft last [] command workers → command.first ≢ codes "make" → Ends last command
 left_ends last command workers left no_make =
@@ -157,14 +165,14 @@ left_ends last command workers left no_make =
       says = record {
         alone = alone_given last.given.alone once;
         numbers = record {
-          workers = workers;
-          some_workers = sets_chosen Workers last.given.workers workers (makes.sets Workers);
+          workers = subst AreWorkers (sym (sets_chosen Workers last.given.workers workers (makes.sets Workers))) makes.few_workers;
           samples = sets_chosen Samples last.given.samples command.settings.samples (makes.sets Samples);
           marks = sets_chosen Marks last.given.marks command.settings.marks (makes.sets Marks);
           rows = sets_chosen Rows last.given.rows command.settings.rows (makes.sets Rows);
           seed = sets_chosen Seed last.given.seed command.settings.seed (makes.sets Seed);
+          within = makes.within;
         };
-        files = names_command last.given.files command makes.names no_make;
+        files = names_command last.given.operands last.given.condition command makes.names no_make (one_text last.given.condition command.condition makes.pre);
       };
     }
 
@@ -192,6 +200,9 @@ command_left words command is = record {
   makes = record {
     alone_once = omega (arith, is.alone_once);
     sets = λ setting. rw (no_number setting) (command_sets words command is setting);
+    pre = is.pre;
+    within = is.within;
+    few_workers = is.few_workers;
     names = is.files;
   };
 }
@@ -215,17 +226,21 @@ reads_command words last command reads ends =
     let left = read_left words start last command ended.0 reads ended.1 in
     by left.items left.spells ended.0 left.makes ended.2
   where
-    by : (items : List Item) → SpellsFrom expects.Word words items → (workers : ℕ) → Makes nothing items command workers → command.first ≢ codes "make" → IsCommand words command
+    by : (items : List Item) → SpellsFrom expects.Word words items → (workers : ℕ) → Makes nothing items command workers → command.first ≢ codes "make"
+        → IsCommand words command
     by items (at_word _ _ spells) workers makes no_make = record {
       items = items;
       spells = spells;
       alone_once = omega (arith, makes.alone_once);
+      workers = workers;
+      some_workers = makes.sets Workers;
+      few_workers = makes.few_workers;
       samples = makes.sets Samples;
       marks = makes.sets Marks;
       rows = makes.sets Rows;
       seed = makes.sets Seed;
-      workers = workers;
-      some_workers = makes.sets Workers;
+      within = makes.within;
+      pre = makes.pre;
       files = makes.names;
       no_make = no_make;
     }
@@ -250,22 +265,19 @@ one_end : (last : Reading) (one other : Command) → Ends last one → Ends last
 one_end last one other ends also =
     let numbers = ends.says.numbers in
     let others = also.says.numbers in
-    let samples : one.settings.samples ≡ other.settings.samples = same numbers.samples others.samples in
-    let marks : one.settings.marks ≡ other.settings.marks = same numbers.marks others.marks in
-    let rows : one.settings.rows ≡ other.settings.rows = same numbers.rows others.rows in
-    let seed : one.settings.seed ≡ other.settings.seed = same numbers.seed others.seed in
+    let samples : one.settings.samples ≡ other.settings.samples = sym numbers.samples ∙ others.samples in
+    let marks : one.settings.marks ≡ other.settings.marks = sym numbers.marks ∙ others.marks in
+    let rows : one.settings.rows ≡ other.settings.rows = sym numbers.rows ∙ others.rows in
+    let seed : one.settings.seed ≡ other.settings.seed = sym numbers.seed ∙ others.seed in
     let settings : one.settings ≡ other.settings =
     ap (λ n. bounds n one.settings.marks one.settings.rows one.settings.seed) samples
     ∙ ap (λ n. bounds other.settings.samples n one.settings.rows one.settings.seed) marks
     ∙ ap (λ n. bounds other.settings.samples other.settings.marks n one.settings.seed) rows
     ∙ ap (λ n. bounds other.settings.samples other.settings.marks other.settings.rows n) seed in
-    let files : command_of one.settings last.given.files ≡ Some one = ends.says.files in
-    let other_files : command_of other.settings last.given.files ≡ Some other = also.says.files in
-    let moved : Some one ≡ Some other = sym files ∙ ap (λ b. command_of b last.given.files) settings ∙ other_files in
+    let files : command_of one.settings last.given.condition last.given.operands ≡ Some one = ends.says.files in
+    let other_files : command_of other.settings last.given.condition last.given.operands ≡ Some other = also.says.files in
+    let moved : Some one ≡ Some other = sym files ∙ ap (λ b. command_of b last.given.condition last.given.operands) settings ∙ other_files in
     cc
-  where
-    same : {so_far : Option ℕ} {a b : ℕ} → so_far ≡ Some a → so_far ≡ Some b → a ≡ b
-    same is also = cc
 
 pub one_command_only : IsOneCommand
 one_command_only words one other is also =

@@ -1,29 +1,33 @@
 -- What the kind of a word says of the word.
 use Rattle.std.proofs.Common.{◌≡◌, ◌≢◌, ◌==◌, ◌++◌, ◌&&◌, append_assoc, ◌+◌, suc, take, drop, ℕ, Bool, true, false, List, [], ◌∷◌, Option, Some, None, refl, sym, ap, ◌∙◌, true≢false, arith}
-use Rattle.std.specs.Prelude.{codes, bytes_eq, if◌then◌else◌}
+use Rattle.std.specs.Prelude.{codes, bytes_eq, if◌then◌else◌, option_map}
 use Rattle.std.specs.List.{list_any, before_first, after_first, position_or_len}
 use Rattle.std.proofs.lemmas.Bool.Decides.{nat_tests}
 use Rattle.std.proofs.lemmas.Slice.Eq.{bytes_eq-Decides}
 use Rattle.command_line.specs.declared.setting.Setting.{Setting}
 use Rattle.command_line.specs.declared.setting.Setting.TheVariants.{Workers, Samples, Marks, Rows, Seed}
-use Rattle.command_line.specs.CommandLine.{IsOperand, name_of}
-use Rattle.command_line.specs.Read.{WordKind, dashes, plain, switch, joined, apart, unknown, is_operand, setting_named, joined_kind, apart_kind, kind_of}
+use Rattle.command_line.specs.declared.setting.Valued.{Valued}
+use Rattle.command_line.specs.declared.setting.Valued.TheVariants.{Number, Pre}
+use Rattle.command_line.specs.CommandLine.{IsOperand, setting_name, name_of}
+use Rattle.command_line.specs.Read.{WordKind, dashes, plain, switch, joined, apart, unknown, is_operand, setting_named, option_named, joined_kind, apart_kind, kind_of}
 
 -- ---- from a word to its kind
 
-pub kind_of-joined : (setting : Setting) (value : List ℕ) → kind_of (name_of setting ++ codes "=" ++ value) ≡ joined setting value
-kind_of-joined Workers value = refl
-kind_of-joined Samples value = refl
-kind_of-joined Marks value = refl
-kind_of-joined Rows value = refl
-kind_of-joined Seed value = refl
+pub kind_of-joined : (option : Valued) (value : List ℕ) → kind_of (name_of option ++ codes "=" ++ value) ≡ joined option value
+kind_of-joined (Number Workers) value = refl
+kind_of-joined (Number Samples) value = refl
+kind_of-joined (Number Marks) value = refl
+kind_of-joined (Number Rows) value = refl
+kind_of-joined (Number Seed) value = refl
+kind_of-joined Pre value = refl
 
-pub kind_of-apart : (setting : Setting) → kind_of (name_of setting) ≡ apart setting
-kind_of-apart Workers = refl
-kind_of-apart Samples = refl
-kind_of-apart Marks = refl
-kind_of-apart Rows = refl
-kind_of-apart Seed = refl
+pub kind_of-apart : (option : Valued) → kind_of (name_of option) ≡ apart option
+kind_of-apart (Number Workers) = refl
+kind_of-apart (Number Samples) = refl
+kind_of-apart (Number Marks) = refl
+kind_of-apart (Number Rows) = refl
+kind_of-apart (Number Seed) = refl
+kind_of-apart Pre = refl
 
 no_dash : (byte : ℕ) → byte ≢ 45 → (byte == 45) ≡ false
 no_dash byte differs = grind (arith, nat_tests)
@@ -40,8 +44,8 @@ abbrev pub KindSays : List ℕ → WordKind → Type 0
 KindSays word dashes = word ≡ codes "--"
 KindSays word plain = IsOperand word
 KindSays word switch = word ≡ codes "--alone"
-KindSays word (joined setting value) = word ≡ name_of setting ++ codes "=" ++ value
-KindSays word (apart setting) = word ≡ name_of setting
+KindSays word (joined option value) = word ≡ name_of option ++ codes "=" ++ value
+KindSays word (apart option) = word ≡ name_of option
 KindSays word unknown = Unit {0}
 
 by_test : (word : List ℕ) (test : Bool) (one other : WordKind) → (test ≡ true → KindSays word one) → (test ≡ false → KindSays word other)
@@ -52,7 +56,12 @@ by_test word false one other holds fails = fails refl
 -- What a name that was looked up says of the name.
 abbrev NameSays : List ℕ → Option Setting → Type 0
 NameSays name None = Unit {0}
-NameSays name (Some setting) = name ≡ name_of setting
+NameSays name (Some setting) = name ≡ setting_name setting
+
+-- The same among all that take a value.
+abbrev OptionSays : List ℕ → Option Valued → Type 0
+OptionSays name None = Unit {0}
+OptionSays name (Some option) = name ≡ name_of option
 
 by_name : (name : List ℕ) (test : Bool) (one other : Option Setting) → (test ≡ true → NameSays name one) → NameSays name other
     → NameSays name (if test then one else other)
@@ -69,6 +78,20 @@ setting_named-says name =
     (by_name name (bytes_eq name (codes "--marks")) (Some Marks) _ (same_bytes name (codes "--marks"))
     (by_name name (bytes_eq name (codes "--rows")) (Some Rows) _ (same_bytes name (codes "--rows"))
     (by_name name (bytes_eq name (codes "--seed")) (Some Seed) None (same_bytes name (codes "--seed")) tt))))
+
+number_says : (name : List ℕ) (found : Option Setting) → NameSays name found → OptionSays name (option_map Number found)
+number_says name None says = tt
+number_says name (Some setting) says = says
+
+by_option : (name : List ℕ) (test : Bool) (one other : Option Valued) → (test ≡ true → OptionSays name one) → OptionSays name other
+    → OptionSays name (if test then one else other)
+by_option name true one other holds fails = holds refl
+by_option name false one other holds fails = fails
+
+option_named-says : (name : List ℕ) → OptionSays name (option_named name)
+option_named-says name =
+    by_option name (bytes_eq name (codes "--pre")) (Some Pre) (option_map Number (setting_named name)) (same_bytes name (codes "--pre"))
+    (number_says name (setting_named name) (setting_named-says name))
 
 equals_sign : (byte : ℕ) → (byte == 61) ≡ true → byte ≡ 61
 equals_sign byte is = grind (arith, nat_tests)
@@ -91,13 +114,14 @@ parts : (word : List ℕ) → list_any (λ b. b == 61) word ≡ true → word �
 parts [] some = absurd cc
 parts (byte ∷ bytes) some = parts_at byte bytes (byte == 61) refl (parts bytes) some
 
-joined_kind-says : (word name value : List ℕ) (found : Option Setting) → word ≡ name ++ 61 ∷ value → NameSays name found → KindSays word (joined_kind found value)
+joined_kind-says : (word name value : List ℕ) (found : Option Valued) → word ≡ name ++ 61 ∷ value → OptionSays name found
+    → KindSays word (joined_kind found value)
 joined_kind-says word name value None whole says = tt
-joined_kind-says word name value (Some setting) whole says = whole ∙ ap (λ n. n ++ 61 ∷ value) says ∙ sym (append_assoc (name_of setting) (codes "=") value)
+joined_kind-says word name value (Some option) whole says = whole ∙ ap (λ n. n ++ 61 ∷ value) says ∙ sym (append_assoc (name_of option) (codes "=") value)
 
-apart_kind-says : (word : List ℕ) (found : Option Setting) → NameSays word found → KindSays word (apart_kind found)
+apart_kind-says : (word : List ℕ) (found : Option Valued) → OptionSays word found → KindSays word (apart_kind found)
 apart_kind-says word None says = tt
-apart_kind-says word (Some setting) says = says
+apart_kind-says word (Some option) says = says
 
 is_operand-says : (word : List ℕ) → is_operand word ≡ true → IsOperand word
 is_operand-says [] is = tt
@@ -110,7 +134,7 @@ kind_of-says word =
     (λ _. by_test word (is_operand word) plain _ (is_operand-says word)
     (λ _. by_test word (bytes_eq word (codes "--alone")) switch _ (same_bytes word (codes "--alone"))
     (λ _. by_test word (list_any (λ b. b == 61) word)
-    (joined_kind (setting_named (before_first (λ b. b == 61) word)) (after_first (λ b. b == 61) word)) (apart_kind (setting_named word))
-    (λ some. joined_kind-says word (before_first (λ b. b == 61) word) (after_first (λ b. b == 61) word) (setting_named (before_first (λ b. b == 61) word))
-    (parts word some) (setting_named-says (before_first (λ b. b == 61) word)))
-    (λ _. apart_kind-says word (setting_named word) (setting_named-says word)))))
+    (joined_kind (option_named (before_first (λ b. b == 61) word)) (after_first (λ b. b == 61) word)) (apart_kind (option_named word))
+    (λ some. joined_kind-says word (before_first (λ b. b == 61) word) (after_first (λ b. b == 61) word) (option_named (before_first (λ b. b == 61) word))
+    (parts word some) (option_named-says (before_first (λ b. b == 61) word)))
+    (λ _. apart_kind-says word (option_named word) (option_named-says word)))))

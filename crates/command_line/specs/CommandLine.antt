@@ -1,19 +1,28 @@
 -- The command line: options and the names of two files, in any order.
-use Rattle.std.specs.Prelude.{◌≡◌, ◌≢◌, ℕ, suc, ◌≤◌, ◌==◌, if◌then◌else◌, ◌++◌, List, [], ◌∷◌, map, codes}
+use Rattle.std.specs.Prelude.{◌≡◌, ◌≢◌, ℕ, suc, ◌<◌, ◌≤◌, Bool, true, false, if◌then◌else◌, ◌++◌, List, [], ◌∷◌, map, codes, option_to_list}
 use Rattle.std.specs.Str.Parse.{IsNumeral, digits_value, without_leading_plus}
 use Rattle.command_line.specs.declared.setting.Setting.{Setting}
 use Rattle.command_line.specs.declared.setting.Setting.TheVariants.{Workers, Samples, Marks, Rows, Seed}
+use Rattle.command_line.specs.declared.setting.Valued.{Valued}
+use Rattle.command_line.specs.declared.setting.Valued.TheVariants.{Number, Pre}
+use Rattle.c_ast.specs.Bounds.{AreBounds}
+use Rattle.command_line.specs.ConditionText.{IsConditionText}
 use Rattle.command_line.specs.declared.words.Command.{Command}
 
--- the option's name
-abbrev pub name_of : Setting → List ℕ
-name_of Workers = codes "--workers"
-name_of Samples = codes "--samples"
-name_of Marks = codes "--marks"
-name_of Rows = codes "--rows"
-name_of Seed = codes "--seed"
+-- The name of an option that takes a number.
+abbrev pub setting_name : Setting → List ℕ
+setting_name Workers = codes "--workers"
+setting_name Samples = codes "--samples"
+setting_name Marks = codes "--marks"
+setting_name Rows = codes "--rows"
+setting_name Seed = codes "--seed"
 
--- the number that stands where the option is not given
+-- The name of an option that takes a value.
+abbrev pub name_of : Valued → List ℕ
+name_of (Number setting) = setting_name setting
+name_of Pre = codes "--pre"
+
+-- The number that stands where the option is not given.
 abbrev pub default_of : Setting → ℕ
 default_of Workers = 4
 default_of Samples = 100
@@ -21,34 +30,21 @@ default_of Marks = 64
 default_of Rows = 4000
 default_of Seed = 0
 
--- the least number that the option takes
-abbrev pub least_of : Setting → ℕ
-least_of Workers = 1
-least_of Samples = 1
-least_of Marks = 1
-least_of Rows = 1
-least_of Seed = 0
+-- There are 1 to 64 threads.
+abbrev pub AreWorkers : ℕ → Type 0
+AreWorkers workers = (1 ≤ workers) × (workers ≤ 64)
 
--- the greatest number that the option takes
-abbrev pub greatest_of : Setting → ℕ
-greatest_of Workers = 64
-greatest_of Samples = 1000
-greatest_of Marks = 250
-greatest_of Rows = 4000
-greatest_of Seed = 18446744073709551615
-
--- The number is in the option's range.
-abbrev pub IsWithin : Setting → ℕ → Type 0
-IsWithin setting number = (least_of setting ≤ number) × (number ≤ greatest_of setting)
-
--- The word writes the number: a plus or none, and one or more decimal digits.
-abbrev pub Writes : List ℕ → ℕ → Type 0
-Writes word number = IsNumeral 10 (without_leading_plus word) × (digits_value 10 (without_leading_plus word) ≡ number)
+-- The word writes the number, one of 64 bits: a plus or none, and one or more decimal digits.
+pub record Writes (word : List ℕ) (number : ℕ) : Type 0 where
+  pub numeral : IsNumeral 10 (without_leading_plus word)
+  pub value : digits_value 10 (without_leading_plus word) ≡ number
+  pub fits : number < 18446744073709551616
 
 -- What a word says, or an option's name and its value.
 pub data Item : Type 0 where
   alone : Item
   given : Setting → ℕ → Item
+  condition : List ℕ → Item
   operand : List ℕ → Item
 
 -- The word begins with no dash, or is one dash alone.
@@ -57,65 +53,95 @@ IsOperand [] = Unit {0}
 IsOperand (byte ∷ []) = Unit {0}
 IsOperand (byte ∷ next ∷ bytes) = byte ≢ 45
 
--- The words say these items, one after the other. A value is the rest of the word after `=`, or else the next word. After
--- the word `--` each word is an operand.
+-- The word begins with no dash.
+abbrev pub HasNoDash : List ℕ → Type 0
+HasNoDash [] = Unit {0}
+HasNoDash (byte ∷ bytes) = byte ≢ 45
+
+-- The option with this value says the item.
+pub data SpellsValue : Valued → List ℕ → Item → Type 0 where
+  says_number : (setting : Setting) (value : List ℕ) (n : ℕ) → Writes value n
+      → SpellsValue (Number setting) value (given setting n)
+  says_text : (value : List ℕ) → IsConditionText value → SpellsValue Pre value (condition value)
+
+-- The words say these items, one after the other. A value is the rest of the word after `=`, or else the next word, which
+-- does not begin with a dash. After the word `--` each word is an operand.
 pub data Spells : List (List ℕ) → List Item → Type 0 where
   end : Spells [] []
   dashes : (words : List (List ℕ)) → Spells (codes "--" ∷ words) (map operand words)
-  plain : (word : List ℕ) (words : List (List ℕ)) (items : List Item) → IsOperand word → Spells words items → Spells (word ∷ words) (operand word ∷ items)
-  switch : (words : List (List ℕ)) (items : List Item) → Spells words items → Spells (codes "--alone" ∷ words) (alone ∷ items)
-  joined : (setting : Setting) (value : List ℕ) (number : ℕ) (words : List (List ℕ)) (items : List Item) → Writes value number → Spells words items
-      → Spells ((name_of setting ++ codes "=" ++ value) ∷ words) (given setting number ∷ items)
-  apart : (setting : Setting) (value : List ℕ) (number : ℕ) (words : List (List ℕ)) (items : List Item) → Writes value number → Spells words items
-      → Spells (name_of setting ∷ value ∷ words) (given setting number ∷ items)
+  plain : (word : List ℕ) (words : List (List ℕ)) (items : List Item) → IsOperand word → Spells words items
+      → Spells (word ∷ words) (operand word ∷ items)
+  switch : (words : List (List ℕ)) (items : List Item) → Spells words items
+      → Spells (codes "--alone" ∷ words) (alone ∷ items)
+  joined : (option : Valued) (value : List ℕ) (item : Item) (words : List (List ℕ)) (items : List Item)
+      → SpellsValue option value item → Spells words items
+      → Spells ((name_of option ++ codes "=" ++ value) ∷ words) (item ∷ items)
+  apart : (option : Valued) (value : List ℕ) (item : Item) (words : List (List ℕ)) (items : List Item)
+      → SpellsValue option value item → HasNoDash value → Spells words items
+      → Spells (name_of option ∷ value ∷ words) (item ∷ items)
 
--- the operands among the items
+-- The operands among the items.
 abbrev pub operands : List Item → List (List ℕ)
 operands [] = []
 operands (alone ∷ items) = operands items
 operands (given setting number ∷ items) = operands items
+operands (condition text ∷ items) = operands items
 operands (operand word ∷ items) = word ∷ operands items
 
--- how often `--alone` stands among the items
+-- How often `--alone` stands among the items.
 abbrev pub switches : List Item → ℕ
 switches [] = 0
 switches (alone ∷ items) = suc (switches items)
 switches (given setting number ∷ items) = switches items
+switches (condition text ∷ items) = switches items
 switches (operand word ∷ items) = switches items
 
--- the options' places in the order above
-abbrev pub place_of : Setting → ℕ
-place_of Workers = 0
-place_of Samples = 1
-place_of Marks = 2
-place_of Rows = 3
-place_of Seed = 4
+-- The texts of conditions among the items.
+abbrev pub conditions : List Item → List (List ℕ)
+conditions [] = []
+conditions (alone ∷ items) = conditions items
+conditions (given setting number ∷ items) = conditions items
+conditions (condition text ∷ items) = text ∷ conditions items
+conditions (operand word ∷ items) = conditions items
 
--- the numbers that the option is given
+-- Whether both are one option.
+abbrev pub is_same : Setting → Setting → Bool
+is_same Workers Workers = true
+is_same Samples Samples = true
+is_same Marks Marks = true
+is_same Rows Rows = true
+is_same Seed Seed = true
+is_same _ _ = false
+
+-- The numbers that the option is given.
 abbrev pub numbers : Setting → List Item → List ℕ
 numbers setting [] = []
 numbers setting (alone ∷ items) = numbers setting items
-numbers setting (given other number ∷ items) = if place_of other == place_of setting then number ∷ numbers setting items else numbers setting items
+numbers setting (given other number ∷ items) = if is_same other setting then number ∷ numbers setting items else numbers setting items
+numbers setting (condition text ∷ items) = numbers setting items
 numbers setting (operand word ∷ items) = numbers setting items
 
--- The option stands at most once, within its range, and otherwise has its default.
+-- The option stands at most once, and otherwise has its default.
 abbrev pub Sets : Setting → List ℕ → ℕ → Type 0
 Sets setting [] number = number ≡ default_of setting
-Sets setting (first ∷ []) number = (number ≡ first) × IsWithin setting number
+Sets setting (first ∷ []) number = number ≡ first
 Sets setting (first ∷ second ∷ others) number = ⊥
 
--- The words are a command line, and this is what they say: `--alone` stands once, each other option at most once, and two
--- files are named, the first of which is not `make`.
+-- The words are a command line, and this is what they say: `--alone` stands once, each other option at most once, the
+-- numbers are in their ranges, and two files are named, the first of which is not `make`.
 pub record IsCommand (words : List (List ℕ)) (command : Command) : Type 0 where
   pub items : List Item
   pub spells : Spells words items
   pub alone_once : switches items ≡ 1
+  pub workers : ℕ
+  pub some_workers : Sets Workers (numbers Workers items) workers
+  pub few_workers : AreWorkers workers
   pub samples : Sets Samples (numbers Samples items) command.settings.samples
   pub marks : Sets Marks (numbers Marks items) command.settings.marks
   pub rows : Sets Rows (numbers Rows items) command.settings.rows
   pub seed : Sets Seed (numbers Seed items) command.settings.seed
-  pub workers : ℕ
-  pub some_workers : Sets Workers (numbers Workers items) workers
+  pub within : AreBounds command.settings
+  pub pre : conditions items ≡ option_to_list command.condition
   pub files : operands items ≡ command.first ∷ command.second ∷ []
   pub no_make : command.first ≢ codes "make"
 

@@ -1,3 +1,4 @@
+pub mod ConditionText
 pub mod CommandLine
 pub mod Refused
 pub mod Read

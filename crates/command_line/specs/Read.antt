@@ -1,22 +1,24 @@
 -- Reading a command line word by word, as a plain function. `proofs/Whole.antt` shows that it reads what `CommandLine.antt` says.
-use Rattle.std.specs.Prelude.{ℕ, Bool, true, false, not, nat_lt, ◌==◌, ◌&&◌, if◌then◌else◌, List, [], ◌∷◌, length, Option, Some, None, is_some, option_map, option_and_then, codes, bytes_eq}
+use Rattle.std.specs.Prelude.{ℕ, Bool, true, false, not, nat_lt, nat_le, ◌==◌, ◌&&◌, if◌then◌else◌, List, [], ◌∷◌, length, Option, Some, None, is_some, option_map, option_and_then, codes, bytes_eq}
 use Rattle.std.specs.Char.{digit_value}
 use Rattle.std.specs.List.{list_all, list_any, before_first, after_first}
 use Rattle.std.specs.Str.Parse.{digits_value, without_leading_plus}
 use Rattle.command_line.specs.declared.setting.Setting.{Setting}
 use Rattle.command_line.specs.declared.setting.Setting.TheVariants.{Workers, Samples, Marks, Rows, Seed}
-use Rattle.command_line.specs.declared.kind.Kind.{Kind}
-use Rattle.command_line.specs.declared.kind.Kind.TheVariants.{Dashes, Operand, Alone, Joined, Apart, Unknown}
+use Rattle.command_line.specs.declared.setting.Valued.{Valued}
+use Rattle.command_line.specs.declared.setting.Valued.TheVariants.{Number, Pre}
+use Rattle.command_line.specs.declared.kind.Word.{Word}
+use Rattle.command_line.specs.declared.kind.Word.TheVariants.{Dashes, Operand, Alone, Joined, Apart, Unknown}
 use Rattle.command_line.specs.declared.given.Given.{Given}
-use Rattle.command_line.specs.declared.given.Files.{Files}
-use Rattle.command_line.specs.declared.given.Files.TheVariants as files
+use Rattle.command_line.specs.declared.given.Operands.{Operands}
+use Rattle.command_line.specs.declared.given.Operands.TheVariants as names
 use Rattle.command_line.specs.declared.reading.Reading.{Reading}
 use Rattle.command_line.specs.declared.reading.Expects.{Expects}
 use Rattle.command_line.specs.declared.reading.Expects.TheVariants as expects
 use Rattle.command_line.specs.declared.words.NoCommand.{NoCommand}
 use Rattle.command_line.specs.declared.words.NoCommand.TheVariants.{Usage, Memory}
 
--- the option of this name
+-- The option of this name.
 abbrev pub setting_named : List ℕ → Option Setting
 setting_named name =
     if bytes_eq name (codes "--workers") then Some Workers
@@ -25,67 +27,82 @@ setting_named name =
     else (if bytes_eq name (codes "--rows") then Some Rows
     else (if bytes_eq name (codes "--seed") then Some Seed else None))))
 
+-- The option of this name, among all that take a value.
+abbrev pub option_named : List ℕ → Option Valued
+option_named name = if bytes_eq name (codes "--pre") then Some Pre else option_map Number (setting_named name)
+
 -- What a word is, where options are still met.
 pub data WordKind : Type 0 where
   dashes : WordKind
   plain : WordKind
   switch : WordKind
-  joined : Setting → List ℕ → WordKind
-  apart : Setting → WordKind
+  joined : Valued → List ℕ → WordKind
+  apart : Valued → WordKind
   unknown : WordKind
 
--- the word begins with no dash, or is one dash alone
+-- The word begins with no dash, or is one dash alone.
 abbrev pub is_operand : List ℕ → Bool
 is_operand [] = true
 is_operand (byte ∷ []) = true
 is_operand (byte ∷ next ∷ bytes) = not (byte == 45)
 
--- an option with its value after `=`, or without one
-abbrev pub joined_kind : Option Setting → List ℕ → WordKind
+-- Whether the word begins with a dash.
+abbrev pub begins_with_dash : List ℕ → Bool
+begins_with_dash [] = false
+begins_with_dash (byte ∷ bytes) = byte == 45
+
+-- An option with its value after `=`.
+abbrev pub joined_kind : Option Valued → List ℕ → WordKind
 joined_kind None value = unknown
-joined_kind (Some setting) value = joined setting value
+joined_kind (Some option) value = joined option value
 
-abbrev pub apart_kind : Option Setting → WordKind
+-- An option whose value is the next word.
+abbrev pub apart_kind : Option Valued → WordKind
 apart_kind None = unknown
-apart_kind (Some setting) = apart setting
+apart_kind (Some option) = apart option
 
--- the word as an option that takes a number; its name ends at the first `=`
+-- The word as an option that takes a value; its name ends at the first `=`.
 abbrev pub option_kind : List ℕ → WordKind
 option_kind word =
-    if list_any (λ b. b == 61) word then joined_kind (setting_named (before_first (λ b. b == 61) word)) (after_first (λ b. b == 61) word)
-    else apart_kind (setting_named word)
+    if list_any (λ b. b == 61) word then joined_kind (option_named (before_first (λ b. b == 61) word))
+    (after_first (λ b. b == 61) word)
+    else apart_kind (option_named word)
 
--- what the word is
+-- What the word is.
 abbrev pub kind_of : List ℕ → WordKind
 kind_of word =
     if bytes_eq word (codes "--") then dashes
     else (if is_operand word then plain
     else (if bytes_eq word (codes "--alone") then switch else option_kind word))
 
--- the kind without the reference to its text
-abbrev pub word_kind : Kind → WordKind
+-- The kind without the reference to its text.
+abbrev pub word_kind : Word → WordKind
 word_kind Dashes = dashes
 word_kind Operand = plain
 word_kind Alone = switch
-word_kind (Joined setting value) = joined setting value.now
-word_kind (Apart setting) = apart setting
+word_kind (Joined option value) = joined option value.now
+word_kind (Apart option) = apart option
 word_kind Unknown = unknown
 
--- one or more decimal digits
+-- One or more decimal digits.
 abbrev pub is_numeral : List ℕ → Bool
 is_numeral digits = nat_lt 0 (length digits) && list_all (λ c. nat_lt (digit_value c) 10) digits
 
--- the number that the word writes, where it fits 64 bits
+-- The number that the word writes, where it fits 64 bits.
 abbrev pub value_of : List ℕ → Option ℕ
 value_of word =
     if is_numeral (without_leading_plus word) && nat_lt (digits_value 10 (without_leading_plus word)) 18446744073709551616
     then Some (digits_value 10 (without_leading_plus word)) else None
 
--- what no words give
-abbrev pub nothing : Given
-nothing = record { alone = false; workers = None; samples = None; marks = None; rows = None; seed = None; files = files.None }
+-- Whether the word is as long as a condition's text may be.
+abbrev pub is_condition : List ℕ → Bool
+is_condition word = nat_le 1 (length word) && nat_le (length word) 4096
 
--- the option's number so far
+-- What no words give.
+abbrev pub nothing : Given
+nothing = record { alone = false; workers = None; samples = None; marks = None; rows = None; seed = None; condition = None; operands = names.None }
+
+-- The option's number so far.
 abbrev pub number_of : Setting → Given → Option ℕ
 number_of Workers given = given.workers
 number_of Samples given = given.samples
@@ -93,7 +110,7 @@ number_of Marks given = given.marks
 number_of Rows given = given.rows
 number_of Seed given = given.seed
 
--- the same with the option's number
+-- The same with the option's number.
 abbrev pub put : Setting → ℕ → Given → Given
 put Workers number given = record given { workers = Some number }
 put Samples number given = record given { samples = Some number }
@@ -101,60 +118,75 @@ put Marks number given = record given { marks = Some number }
 put Rows number given = record given { rows = Some number }
 put Seed number given = record given { seed = Some number }
 
--- the same with `--alone`, which stands once
+-- The same with `--alone`, which stands once.
 abbrev pub with_alone : Given → Option Given
 with_alone given = if given.alone then None else Some (record given { alone = true })
 
--- the same with the option's number, where the option did not stand before
+-- The same with the option's number, where the option did not stand before.
 abbrev pub with_number : Setting → ℕ → Given → Option Given
 with_number setting number given = if is_some (number_of setting given) then None else Some (put setting number given)
 
--- the same with the option's value, where the word writes a number
-abbrev pub with_value : Setting → List ℕ → Given → Option Given
-with_value setting word given = option_and_then (λ number. with_number setting number given) (value_of word)
+-- The same with the option's number, where the word writes one.
+abbrev pub with_written : Setting → List ℕ → Given → Option Given
+with_written setting word given = option_and_then (λ number. with_number setting number given) (value_of word)
 
--- one operand more: two at most
-abbrev pub one_more : List ℕ → Files → Option Files
-one_more word files.None = Some (files.First word)
-one_more word (files.First first) = Some (files.Both first word)
-one_more word (files.Both first second) = None
+-- The same with a condition, which stands once.
+abbrev pub with_condition : List ℕ → Given → Option Given
+with_condition text given = if is_some given.condition then None else Some (record given { condition = Some text })
 
--- the same with an operand
+-- The same with the condition that the word is, where it is as long as one may be.
+abbrev pub with_text : List ℕ → Given → Option Given
+with_text word given = if is_condition word then with_condition word given else None
+
+-- The same with the option's value.
+abbrev pub with_value : Valued → List ℕ → Given → Option Given
+with_value (Number setting) word given = with_written setting word given
+with_value Pre word given = with_text word given
+
+-- One operand more: two at most.
+abbrev pub one_more : List ℕ → Operands → Option Operands
+one_more word names.None = Some (names.First word)
+one_more word (names.First first) = Some (names.Both first word)
+one_more word (names.Both first second) = None
+
+-- The same with an operand.
 abbrev pub with_operand : List ℕ → Given → Option Given
-with_operand word given = option_map (λ more. record given { files = more }) (one_more word given.files)
+with_operand word given = option_map (λ more. record given { operands = more }) (one_more word given.operands)
 
+-- What was given, and what the next word is taken for.
 abbrev pub reading : Expects → Given → Reading
 reading next given = record { given = given; expects = next }
 
--- before the first word
+-- Before the first word.
 abbrev pub start : Reading
 start = reading expects.Word nothing
 
--- after a word of this kind, where options are still met
+-- After a word of this kind, where options are still met.
 abbrev pub word_step : WordKind → List ℕ → Given → Option Reading
 word_step dashes word given = Some (reading expects.Operand given)
 word_step plain word given = option_map (reading expects.Word) (with_operand word given)
 word_step switch word given = option_map (reading expects.Word) (with_alone given)
-word_step (joined setting value) word given = option_map (reading expects.Word) (with_value setting value given)
-word_step (apart setting) word given = Some (reading (expects.Value setting) given)
+word_step (joined option value) word given = option_map (reading expects.Word) (with_value option value given)
+word_step (apart option) word given = Some (reading (expects.Value option) given)
 word_step unknown word given = None
 
--- after a word, by what it is taken for
+-- After a word, by what it is taken for.
 abbrev pub expected_step : Expects → List ℕ → Given → Option Reading
 expected_step expects.Word word given = word_step (kind_of word) word given
-expected_step (expects.Value setting) word given = option_map (reading expects.Word) (with_value setting word given)
+expected_step (expects.Value option) word given =
+    if begins_with_dash word then None else option_map (reading expects.Word) (with_value option word given)
 expected_step expects.Operand word given = option_map (reading expects.Operand) (with_operand word given)
 
--- after one more word
+-- After one more word.
 abbrev pub step : List ℕ → Reading → Option Reading
 step word now = expected_step now.expects word now.given
 
--- after all these words
+-- After all these words.
 abbrev pub read : List (List ℕ) → Reading → Option Reading
 read [] now = Some now
 read (word ∷ words) now = option_and_then (read words) (step word now)
 
--- a refusal of the words is for this reason; nothing is said of want of memory
+-- A refusal of the words is for this reason; nothing is said of want of memory.
 abbrev pub Refuses : Type 0 → NoCommand → Type 0
 Refuses Reason Usage = Reason
 Refuses Reason Memory = Unit {0}

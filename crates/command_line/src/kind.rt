@@ -1,11 +1,11 @@
 //! What one word is, where options are still met.
 ghost use Rattle.std.specs.Prelude.{◌≡◌};
-ghost use Rattle.command_line.specs.Read.{is_operand, option_kind, kind_of, value_of, word_kind};
+ghost use Rattle.command_line.specs.Read.{begins_with_dash, is_operand, option_kind, kind_of, value_of, word_kind};
 
-use crate::setting::Setting;
+use crate::setting::Valued;
 
 /// What one word is.
-pub(crate) enum Kind<'a> {
+pub(crate) enum Word<'a> {
     /// The word `--`.
     Dashes,
     /// A word that begins with no dash, or is one dash alone.
@@ -13,25 +13,25 @@ pub(crate) enum Kind<'a> {
     /// The word `--alone`.
     Alone,
     /// An option and its value.
-    Joined(Setting, &'a str),
+    Joined(Valued, &'a str),
     /// An option whose value is the next word.
-    Apart(Setting),
+    Apart(Valued),
     /// A word that begins with a dash, and is none of these.
     Unknown,
 }
 
 /// What the word is.
-pub(crate) fn kind_of(word: &str) -> Kind<'_>
+pub(crate) fn kind_of(word: &str) -> Word<'_>
     ensures { word_kind result ≡ kind_of word.now }
 {
     if word == "--" {
-        return Kind::Dashes;
+        return Word::Dashes;
     }
     if is_operand(word) {
-        return Kind::Operand;
+        return Word::Operand;
     }
     if word == "--alone" {
-        return Kind::Alone;
+        return Word::Alone;
     }
     option(word)
 }
@@ -43,6 +43,13 @@ pub(crate) fn value(word: &str) -> Option<u64>
     word.parse::<u64>().ok()
 }
 
+/// Whether the word begins with a dash.
+pub(crate) fn begins_with_dash(word: &str) -> bool
+    ensures { result ≡ begins_with_dash word.now }
+{
+    matches!(word.as_bytes(), [b'-', ..])
+}
+
 // Whether the word begins with no dash, or is one dash alone.
 fn is_operand(word: &str) -> bool
     ensures { result ≡ is_operand word.now }
@@ -50,18 +57,18 @@ fn is_operand(word: &str) -> bool
     !matches!(word.as_bytes(), [b'-', _, ..])
 }
 
-// The word as an option that takes a number.
-fn option(word: &str) -> Kind<'_>
+// The word as an option that takes a value. Its name ends at the first `=`.
+fn option(word: &str) -> Word<'_>
     ensures { word_kind result ≡ option_kind word.now }
 {
     match word.split_once('=') {
-        Some((name, value)) => match Setting::named(name) {
-            Some(setting) => Kind::Joined(setting, value),
-            None => Kind::Unknown,
+        Some((name, value)) => match Valued::named(name) {
+            Some(option) => Word::Joined(option, value),
+            None => Word::Unknown,
         },
-        None => match Setting::named(word) {
-            Some(setting) => Kind::Apart(setting),
-            None => Kind::Unknown,
+        None => match Valued::named(word) {
+            Some(option) => Word::Apart(option),
+            None => Word::Unknown,
         },
     }
 }

@@ -1,8 +1,10 @@
-//! The command line of llreve: the program's words go in, and the settings and two files' names come out.
+//! The command line of llreve: the program's words go in; the settings, the text of a condition on
+//! the inputs, and two files' names come out.
 //!
 //! `specs/CommandLine.antt` says which words are a command line, and what they say.
 #![tactic(auto)]
 
+mod condition;
 mod given;
 mod kind;
 mod reading;
@@ -11,4 +13,5 @@ mod setting;
 mod tests;
 mod words;
 
+pub use condition::ConditionText;
 pub use words::{Command, NoCommand, one_command, read_command};

@@ -1,13 +1,12 @@
 //! Reading the words one by one.
-ghost use Rattle.std.specs.Prelude.{◌≡◌, None, Some, IfSome, IfNone, IfOk, IfErr, option_map};
+ghost use Rattle.std.specs.Prelude.{◌≡◌, None, Some, IfSome, IfNone, IfOk, IfErr};
 ghost use Rattle.command_line.specs.declared.words.Command.{Command};
-ghost use Rattle.command_line.specs.declared.reading.Expects.TheVariants.{Word};
 ghost use Rattle.command_line.specs.Read.{step, word_step, kind_of, start, reading, Refuses};
 ghost use Rattle.command_line.specs.Says.{Ends};
 
 use crate::given::Given;
-use crate::kind::{Kind, kind_of};
-use crate::setting::Setting;
+use crate::kind::{Word, begins_with_dash, kind_of};
+use crate::setting::Valued;
 use crate::words::{Command, NoCommand};
 use std::alloc::Global;
 
@@ -17,7 +16,7 @@ pub(crate) enum Expects {
     /// An option or an operand.
     Word,
     /// The option's value.
-    Value(Setting),
+    Value(Valued),
     /// An operand, since `--` stood before.
     Operand,
 }
@@ -50,7 +49,11 @@ impl Reading {
     {
         match self.expects {
             Expects::Word => after_word(self.given, alloc, word),
-            Expects::Value(setting) => expecting_word(self.given.with_value(setting, word)),
+            Expects::Value(option) if !begins_with_dash(word) => {
+                let given = self.given.with_value(alloc, option, word)?;
+                Ok(Reading::new(given, Expects::Word))
+            }
+            Expects::Value(_) => Err(NoCommand::Usage),
             Expects::Operand => {
                 let given = self.given.with_operand(alloc, word)?;
                 Ok(Reading::new(given, Expects::Operand))
@@ -70,31 +73,27 @@ impl Reading {
     }
 }
 
-// Goes on with what was given, where options are still met; a refusal where nothing was.
-fn expecting_word(given: Option<Given>) -> Result<Reading, NoCommand>
-    ensures ok { IfOk result (λ next. option_map (reading Word) given ≡ Some next) }
-    ensures refused { IfErr result (Refuses (given ≡ None)) }
-{
-    match given {
-        Some(given) => Ok(Reading::new(given, Expects::Word)),
-        None => Err(NoCommand::Usage),
-    }
-}
-
 // After one more word, where options are still met.
 fn after_word(given: Given, alloc: Global, word: &str) -> Result<Reading, NoCommand>
     ensures ok { IfOk result (λ next. word_step (kind_of word.now) word.now given ≡ Some next) }
-    ensures refused { IfErr result (Refuses (word_step (kind_of word.now) word.now given ≡ None)) }
+    ensures refused { IfErr result
+        (Refuses (word_step (kind_of word.now) word.now given ≡ None)) }
 {
     match kind_of(word) {
-        Kind::Dashes => Ok(Reading::new(given, Expects::Operand)),
-        Kind::Operand => {
+        Word::Dashes => Ok(Reading::new(given, Expects::Operand)),
+        Word::Operand => {
             let given = given.with_operand(alloc, word)?;
             Ok(Reading::new(given, Expects::Word))
         }
-        Kind::Alone => expecting_word(given.with_alone()),
-        Kind::Joined(setting, value) => expecting_word(given.with_value(setting, value)),
-        Kind::Apart(setting) => Ok(Reading::new(given, Expects::Value(setting))),
-        Kind::Unknown => Err(NoCommand::Usage),
+        Word::Alone => match given.with_alone() {
+            Some(given) => Ok(Reading::new(given, Expects::Word)),
+            None => Err(NoCommand::Usage),
+        },
+        Word::Joined(option, value) => {
+            let given = given.with_value(alloc, option, value)?;
+            Ok(Reading::new(given, Expects::Word))
+        }
+        Word::Apart(option) => Ok(Reading::new(given, Expects::Value(option))),
+        Word::Unknown => Err(NoCommand::Usage),
     }
 }

@@ -1,27 +1,35 @@
-//! The options that take a number.
+//! The options that take a value.
 ghost use Rattle.std.specs.Prelude.{◌≡◌};
 ghost use Rattle.command_line.specs.CommandLine.{default_of};
-ghost use Rattle.command_line.specs.Read.{setting_named};
-ghost use Rattle.command_line.specs.Says.{is_within};
+ghost use Rattle.command_line.specs.Read.{setting_named, option_named};
 
 /// An option that takes a number.
 #[derive(Clone, Copy, Debug, PartialEq, Eq)]
 pub(crate) enum Setting {
-    /// How many threads search: 1 to 64.
+    /// How many threads search.
     Workers,
-    /// How many inputs are sampled: 1 to 1,000.
+    /// How many inputs are sampled.
     Samples,
-    /// How many marks a run may pass: 1 to 250.
+    /// How many marks a run may pass.
     Marks,
-    /// How many rows an elimination may keep: 1 to 4,000.
+    /// How many rows an elimination may keep.
     Rows,
     /// What the words of later inputs are drawn from.
     Seed,
 }
 
+/// An option that takes a value.
+#[derive(Clone, Copy, Debug, PartialEq, Eq)]
+pub(crate) enum Valued {
+    /// A number.
+    Number(Setting),
+    /// The text of a condition on the inputs.
+    Pre,
+}
+
 impl Setting {
     /// The option of this name.
-    pub(crate) fn named(name: &str) -> Option<Setting>
+    fn named(name: &str) -> Option<Setting>
         ensures { result ≡ setting_named name.now }
     {
         if name == "--workers" {
@@ -51,17 +59,19 @@ impl Setting {
             Setting::Seed => 0,
         }
     }
+}
 
-    /// Whether the option takes the number.
-    pub(crate) fn takes(self, number: u64) -> bool
-        ensures { result ≡ is_within self number }
+impl Valued {
+    /// The option of this name.
+    pub(crate) fn named(name: &str) -> Option<Valued>
+        ensures { result ≡ option_named name.now }
     {
-        match self {
-            Setting::Workers => (1..=64).contains(&number),
-            Setting::Samples => (1..=1000).contains(&number),
-            Setting::Marks => (1..=250).contains(&number),
-            Setting::Rows => (1..=4000).contains(&number),
-            Setting::Seed => true,
+        if name == "--pre" {
+            return Some(Valued::Pre);
+        }
+        match Setting::named(name) {
+            Some(setting) => Some(Valued::Number(setting)),
+            None => None,
         }
     }
 }

@@ -3,7 +3,8 @@ use crate::{NoCommand, read_command};
 use std::alloc::{AllocError, Global};
 use std::test::Fail;
 
-// What the words say: the samples, the marks, the rows, the seed and the two names, or `usage`.
+// What the words say: the samples, the marks, the rows, the seed, the two names, and a condition
+// behind `:`; or `usage`.
 fn shown(alloc: Global, words: &[String]) -> Result<String, Fail> {
     let mut out = String::new(alloc);
     match read_command(alloc, words) {
@@ -13,6 +14,9 @@ fn shown(alloc: Global, words: &[String]) -> Result<String, Fail> {
             let (rows, seed) = (settings.rows(), settings.seed());
             write!(out, "{samples} {marks} {rows} {seed} ")?;
             write!(out, "{} {}", command.first.text(), command.second.text())?;
+            if let Some(condition) = &command.condition {
+                write!(out, ":{}", condition.text())?;
+            }
         }
         Err(NoCommand::Usage) => out.push_str("usage")?,
         Err(NoCommand::Memory) => return Err(AllocError.into()),
@@ -20,7 +24,8 @@ fn shown(alloc: Global, words: &[String]) -> Result<String, Fail> {
     Ok(out)
 }
 
-// The words of a line. One space stands between two words, so that an empty word has one on each side.
+// The words of a line. One space stands between two words, so that an empty word has one on each
+// side.
 fn words_of(alloc: Global, line: &str) -> Result<Vec<String>, AllocError> {
     let mut words = Vec::new(alloc);
     for word in line.split(' ') {
@@ -73,6 +78,12 @@ fn command_lines_say_this(rt: HostRuntime) -> Result<(), Fail> {
             "--alone a b --seed 18446744073709551615",
             "100 64 4000 18446744073709551615 a b",
         ),
+        // Conditions.
+        ("--alone a b --pre n", "100 64 4000 0 a b:n"),
+        ("--pre n>0 --alone a b", "100 64 4000 0 a b:n>0"),
+        ("--alone --pre=-n a b", "100 64 4000 0 a b:-n"),
+        ("--alone a --pre=a==b b", "100 64 4000 0 a b:a==b"),
+        ("--alone a b --pre=--pre", "100 64 4000 0 a b:--pre"),
         // Operands.
         ("--alone - B.c", "100 64 4000 0 - B.c"),
         ("--alone -- -x --alone", "100 64 4000 0 -x --alone"),
@@ -128,10 +139,17 @@ fn other_words_are_no_command_lines(rt: HostRuntime) -> Result<(), Fail> {
         "--alone a b --rows 5 --rows=5",
         "--alone a b --workers 4 --workers 4",
         "--alone a b --seed 0 --seed=0",
+        "--alone a b --pre n --pre n",
+        "--alone a b --pre=n --pre n",
         // Values that are missing, or that an option has none of.
         "--alone a b --samples",
         "--alone a b --samples --marks 5",
         "--alone a b --samples -- 5",
+        "--alone a b --pre",
+        "--alone a b --pre=",
+        "--alone a b --pre ",
+        "--alone a b --pre -n",
+        "--alone a b --pre - --seed=1",
         "--alone= a b",
         "--alone=1 a b",
         // Words that are no option.
@@ -141,6 +159,8 @@ fn other_words_are_no_command_lines(rt: HostRuntime) -> Result<(), Fail> {
         "--alone a b -samples 5",
         "--alone a b --samples:5",
         "--alone a b --=5",
+        "--alone a b --pres n",
+        "--alone a b --Pre=n",
         "--alone a b -h",
         "--alone a b --help",
         "--alone a b --history",
@@ -166,6 +186,33 @@ fn other_words_are_no_command_lines(rt: HostRuntime) -> Result<(), Fail> {
     for line in lines {
         let words = words_of(alloc, line)?;
         assert_eq!(rt; shown(alloc, &words)?.as_str(), "usage", "{line}");
+    }
+    Ok(())
+}
+
+// What is said of a condition with this many bytes.
+fn shown_long(alloc: Global, bytes: usize) -> Result<bool, Fail> {
+    let mut words = words_of(alloc, "--alone a b --pre")?;
+    let mut text = String::new(alloc);
+    for _ in 0..bytes {
+        text.push_str("1")?;
+    }
+    words.push(text)?;
+    let shown = shown(alloc, &words)?;
+    Ok(shown.as_str() != "usage")
+}
+
+#[test]
+fn conditions_have_4096_bytes_at_most(rt: HostRuntime) -> Result<(), Fail> {
+    let alloc = rt.alloc();
+    for (bytes, is_read) in [
+        (1, true),
+        (4095, true),
+        (4096, true),
+        (4097, false),
+        (9000, false),
+    ] {
+        assert_eq!(rt; shown_long(alloc, bytes)?, is_read, "{bytes}");
     }
     Ok(())
 }

@@ -3,6 +3,7 @@ ghost use Rattle.std.specs.Prelude.{map, string_bytes, IfOk, IfErr};
 ghost use Rattle.command_line.specs.CommandLine.{IsCommand, IsOneCommand};
 ghost use Rattle.command_line.specs.Refused.{IsNoCommand};
 
+use crate::condition::ConditionText;
 use crate::reading::Reading;
 use c_ast::{Name, Settings};
 use std::alloc::{AllocError, Global};
@@ -12,6 +13,8 @@ use std::alloc::{AllocError, Global};
 pub struct Command {
     /// The numbers of the options, each the one that is given or the option's default.
     pub settings: Settings,
+    /// The text of the condition that the inputs are to meet, where one is given.
+    pub condition: Option<ConditionText>,
     /// The name of side A's file, which is never `make`.
     pub first: Name,
     /// The name of side B's file.
@@ -27,8 +30,8 @@ pub enum NoCommand {
     Memory,
 }
 
-/// What the words say, where they are a command line. `words` leave out the program's name. The error is that they are
-/// none, or that memory ran out.
+/// What the words say, where they are a command line. `words` leave out the program's name. The error
+/// is that they are none, or that memory ran out.
 pub fn read_command(alloc: Global, words: &[String]) -> Result<Command, NoCommand>
     ensures command { IfOk result (IsCommand (map string_bytes words.now)) }
     ensures refused { IfErr result (IsNoCommand (map string_bytes words.now)) }

@@ -10,7 +10,8 @@ returns-in_err-reading-clause-refused c =
     let h = c.in_err-reading.ensures.refused in
     let refused = refused_word (map string_bytes c.args.words.now) (map string_bytes (drop (c.loop-word.word-index + 1) c.args.words.now))
     c.as_str.result.now c.loop-word.reading c.in_err-reading.field-0.0
-    (ap (λ w. option_and_then (read (map string_bytes (drop (c.loop-word.word-index + 1) c.args.words.now))) (step w c.loop-word.reading)) c.as_str.ensures.value
+    (ap (λ w. option_and_then (read (map string_bytes (drop (c.loop-word.word-index + 1) c.args.words.now)))
+    (step w c.loop-word.reading)) c.as_str.ensures.value
     ∙ sym more ∙ c.loop-word.invariant) h in
     search rules
 

@@ -1,0 +1,5 @@
+pub mod Unread
+pub mod Answering
+pub mod Functions
+pub mod Conditions
+pub mod Laws

@@ -1,0 +1,4 @@
+pub mod TextFaults
+pub mod Unread
+pub mod Reads
+pub mod ReadsCondition
