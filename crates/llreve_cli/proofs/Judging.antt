@@ -1,5 +1,5 @@
 -- From what the parts tell to what the words and the files lead to.
-use Rattle.std.proofs.Common.{◌≡◌, ℕ, ◌≤◌, List, Option, refl, sym, subst, arith}
+use Rattle.std.proofs.Common.{◌≡◌, ℕ, ◌≤◌, List, Option, Some, None, refl, sym, subst, arith}
 use Rattle.c_ast.specs.Function.{Function}
 use Rattle.c_ast.specs.declared.subject.Arity.{Arity}
 use Rattle.re_base.specs.Causes.{Rose}
@@ -11,15 +11,33 @@ use Rattle.report.specs.declared.fault.Fault.TheVariants as fault
 use Rattle.llreve_cli.specs.declared.stop.Stop.{Stop}
 use Rattle.llreve_cli.specs.declared.stop.Stop.TheVariants as stop
 use Rattle.llreve_cli.specs.declared.outcome.Outcome.TheVariants as outcome
-use Rattle.llreve_cli.specs.Reads.{Reads}
-use Rattle.llreve_cli.specs.Leads.{IsRead, AreRead, AreFunctions, RefusesRead, RefusesText, Leads, no_command, first_unread, second_unread, first_refused, second_refused, other_arity}
-use Rattle.llreve_cli.specs.Judged.{RefusesWords, RefusesArity}
+use Rattle.c_source.specs.Reads.{Reads}
+use Rattle.llreve_cli.specs.Leads.{IsRead, AreRead, AreFunctions, RefusesRead, RefusesText, Leads, no_command, first_unread, second_unread, first_refused, second_refused, other_arity, condition_refused, RefusesGiven}
+use Rattle.llreve_cli.specs.Judged.{RefusesWords, RefusesSubject}
 use Rattle.llreve_cli.specs.Stops.{StopsBy, LeadsToFault}
 
 -- What each fault of one kind is of another kind too holds of the stop.
 pub StopsBy-weaker : (P Q : Fault → Type 0) (why : Stop) → ((f : Fault) → P f → Q f) → StopsBy P why → StopsBy Q why
 StopsBy-weaker P Q stop.Memory weaker stops = tt
 StopsBy-weaker P Q (stop.Refused f) weaker stops = weaker f stops
+
+-- What is wrong with the condition's text keeps the subject from being made.
+pub given_stop : (f g : Function) (given_text : Option (List ℕ)) (why : Stop) → f.params ≡ g.params → StopsBy (RefusesGiven f given_text) why
+    → StopsBy (RefusesSubject f g given_text) why
+given_stop f g given_text why same stops = StopsBy-weaker (RefusesGiven f given_text) (RefusesSubject f g given_text) why weaker stops
+  where
+    no_arity : (given_text : Option (List ℕ)) (arity : Arity) → ¬ RefusesGiven f given_text (fault.Arity arity)
+    no_arity None arity refuses = refuses
+    no_arity (Some given_text) arity refuses = refuses
+
+    weaker : (w : Fault) → RefusesGiven f given_text w → RefusesSubject f g given_text w
+    weaker fault.Usage refuses = (same, refuses)
+    weaker (fault.Read named) refuses = (same, refuses)
+    weaker (fault.TooLong named) refuses = (same, refuses)
+    weaker (fault.Token named inner) refuses = (same, refuses)
+    weaker (fault.Reader named inner) refuses = (same, refuses)
+    weaker (fault.Check named inner) refuses = (same, refuses)
+    weaker (fault.Arity arity) refuses = absurd (no_arity given_text arity refuses)
 
 -- A file that was read later in the call was not read in the call.
 reads_later : (text told : List ℕ → Option (List ℕ)) (before begun ended after : List ℕ → ℕ) (name : List ℕ) (f : Fault) → told name ≡ text name
@@ -31,7 +49,7 @@ reads_later text told before begun ended after name (fault.TooLong named) same e
 reads_later text told before begun ended after name (fault.Token named inner) same early late refuses = refuses
 reads_later text told before begun ended after name (fault.Reader named inner) same early late refuses = refuses
 reads_later text told before begun ended after name (fault.Check named inner) same early late refuses = refuses
-reads_later text told before begun ended after name (fault.Different arity) same early late refuses = refuses
+reads_later text told before begun ended after name (fault.Arity arity) same early late refuses = refuses
 
 -- Both files were read; `told` are the texts after the first read.
 abbrev pub read_files : (words : List (List ℕ)) (text told : List ℕ → Option (List ℕ)) (command : Command) (first second : List ℕ) → IsCommand words command
@@ -56,7 +74,7 @@ module _ (words : List (List ℕ)) (text : List ℕ → Option (List ℕ)) (befo
   words_refused (fault.Token named inner) refuses = absurd refuses
   words_refused (fault.Reader named inner) refuses = absurd refuses
   words_refused (fault.Check named inner) refuses = absurd refuses
-  words_refused (fault.Different arity) refuses = absurd refuses
+  words_refused (fault.Arity arity) refuses = absurd refuses
 
   -- The words were refused.
   pub words_stop : (why : Stop) → StopsBy (RefusesWords words) why → StopsBy LeadsTo why
@@ -86,15 +104,18 @@ module _ (words : List (List ℕ)) (text : List ℕ → Option (List ℕ)) (befo
   second_text_stop files first why reads stops =
       StopsBy-weaker (RefusesText files.command.second files.second_text) LeadsTo why (λ f refuses. second_refused files first f reads refuses) stops
 
-  arity_refused : (functions : AreFunctions words text) (f : Fault) → RefusesArity functions.first functions.second f → LeadsTo f
-  arity_refused functions fault.Usage refuses = absurd refuses
-  arity_refused functions (fault.Read named) refuses = absurd refuses
-  arity_refused functions (fault.TooLong named) refuses = absurd refuses
-  arity_refused functions (fault.Token named inner) refuses = absurd refuses
-  arity_refused functions (fault.Reader named inner) refuses = absurd refuses
-  arity_refused functions (fault.Check named inner) refuses = absurd refuses
-  arity_refused functions (fault.Different arity) refuses =
-      subst (λ (told : Arity). Leads words text before after (outcome.Refused (fault.Different told))) (sym refuses.0) (other_arity functions refuses.1)
+  given_refused : (functions : AreFunctions words text) (f : Fault)
+      → RefusesSubject functions.first functions.second functions.files.command.condition f → LeadsTo f
+  given_refused functions fault.Usage refuses = condition_refused functions fault.Usage refuses.0 refuses.1
+  given_refused functions (fault.Read named) refuses = condition_refused functions (fault.Read named) refuses.0 refuses.1
+  given_refused functions (fault.TooLong named) refuses = condition_refused functions (fault.TooLong named) refuses.0 refuses.1
+  given_refused functions (fault.Token named inner) refuses = condition_refused functions (fault.Token named inner) refuses.0 refuses.1
+  given_refused functions (fault.Reader named inner) refuses = condition_refused functions (fault.Reader named inner) refuses.0 refuses.1
+  given_refused functions (fault.Check named inner) refuses = condition_refused functions (fault.Check named inner) refuses.0 refuses.1
+  given_refused functions (fault.Arity arity) refuses =
+      subst (λ (told : Arity). Leads words text before after (outcome.Refused (fault.Arity told))) (sym refuses.0) (other_arity functions refuses.1)
 
-  pub arity_stop : (functions : AreFunctions words text) (why : Stop) → StopsBy (RefusesArity functions.first functions.second) why → StopsBy LeadsTo why
-  arity_stop functions why stops = StopsBy-weaker (RefusesArity functions.first functions.second) LeadsTo why (arity_refused functions) stops
+  pub subject_stop : (functions : AreFunctions words text) (why : Stop)
+      → StopsBy (RefusesSubject functions.first functions.second functions.files.command.condition) why → StopsBy LeadsTo why
+  subject_stop functions why stops =
+      StopsBy-weaker (RefusesSubject functions.first functions.second functions.files.command.condition) LeadsTo why (given_refused functions) stops

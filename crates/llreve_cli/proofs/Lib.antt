@@ -1,6 +1,3 @@
-pub mod Reading
-pub mod OneReading
-pub mod OneRefusal
 pub mod Marks
 pub mod Judging
 pub mod Telling

@@ -1,81 +1,130 @@
 -- Words and told texts lead to one outcome at most.
-use Rattle.std.proofs.Common.{◌≡◌, ◌≢◌, ℕ, ◌<◌, ◌≤◌, List, length, Option, Some, refl, sym, ap, ◌∙◌, subst, arith}
+use Rattle.std.proofs.Common.{◌≡◌, ◌≢◌, ℕ, ◌<◌, ◌≤◌, List, length, Option, Some, None, refl, sym, ap, ◌∙◌, subst, arith}
+use Rattle.std.specs.Prelude.{codes}
 use Rattle.re_base.specs.Told.{IsLong, longest}
+use Rattle.c_ast.specs.declared.expr.Expr.{Expr}
 use Rattle.c_ast.specs.Function.{Function}
 use Rattle.c_ast.specs.Comparison.{Comparison, comparison}
 use Rattle.c_ast.specs.declared.trace.Pair.{Pair}
 use Rattle.command_line.specs.declared.words.Command.{Command}
 use Rattle.command_line.specs.CommandLine.{IsCommand}
 use Rattle.command_line.specs.Refused.{AreNoCommandLine}
-use Rattle.command_line.proofs.Whole.{one_command_only}
+use Rattle.command_line.proofs.Laws.{one_command}
 use Rattle.report.specs.declared.early.Early.{Early}
 use Rattle.report.specs.declared.fault.Fault.{Fault}
 use Rattle.report.specs.declared.fault.Fault.TheVariants as fault
 use Rattle.llreve_cli.specs.declared.outcome.Outcome.{Outcome}
 use Rattle.llreve_cli.specs.declared.outcome.Outcome.TheVariants as outcome
-use Rattle.llreve_cli.specs.declared.function.TextFault.TheVariants as refusal
-use Rattle.llreve_cli.specs.Reads.{Reads}
+use Rattle.c_source.specs.declared.fault.TextFault.{TextFault}
+use Rattle.c_source.specs.declared.fault.TextFault.TheVariants as refusal
+use Rattle.c_source.specs.Reads.{Reads, IsRefusal}
+use Rattle.c_source.specs.ReadsCondition.{IsConditionRefusal}
+use Rattle.c_source.proofs.Laws.{one_reading, one_refusal, read_is_not_refused, one_condition, one_condition_refusal, read_condition_is_not_refused}
 use Rattle.llreve_cli.specs.Compare.{Compares}
 use Rattle.llreve_cli.specs.Samples.{TellsApart}
 use Rattle.llreve_cli.specs.Written.{fault_status, status_of}
-use Rattle.llreve_cli.specs.Leads.{IsRead, RefusesRead, RefusesText, arities, Leads, no_command, first_unread, second_unread, first_refused, second_refused, other_arity, compared}
+use Rattle.llreve_cli.specs.Leads.{IsRead, AreFunctions, IsGivenCondition, RefusesRead, RefusesBy, RefusesText, RefusesGiven, arities, Leads, no_command, first_unread, second_unread, first_refused, second_refused, other_arity, condition_refused, compared}
 use Rattle.llreve_cli.specs.Answers.{AreTold, SampleDiffers, HasOneOutcome}
-use Rattle.llreve_cli.proofs.OneReading.{not_refused, reading_once}
-use Rattle.llreve_cli.proofs.OneRefusal.{refusal_once}
 use Rattle.llreve_cli.proofs.OneVerdict.{verdict_once, apart_different}
 
--- ---- a file is refused for one reason at most
+-- ---- a text is refused for one reason at most
 
-refused_once : (name text : List ℕ) (one other : Fault) → RefusesText name text one → RefusesText name text other → one ≡ other
-refused_once name text (fault.Token a one) (fault.Token b other) is also =
-    let same = refusal_once text (refusal.Token one) (refusal.Token other) is.1 also.1 in
+-- A refusal stands for one fault under a name.
+refused_once : (name : List ℕ) (IsRefused : TextFault → Type 0) → ((s t : TextFault) → IsRefused s → IsRefused t → s ≡ t) → (one other : Fault)
+    → RefusesBy name IsRefused one → RefusesBy name IsRefused other → one ≡ other
+refused_once name IsRefused once (fault.Token a one) (fault.Token b other) is also =
+    let same = once (refusal.Token one) (refusal.Token other) is.1 also.1 in
     let inner : one ≡ other = cc in rw (is.0, also.0, inner) refl
-refused_once name text (fault.Token a one) (fault.Reader b other) is also =
-    absurd (let clash = refusal_once text (refusal.Token one) (refusal.Reader other) is.1 also.1 in cc)
-refused_once name text (fault.Token a one) (fault.Check b other) is also =
-    absurd (let clash = refusal_once text (refusal.Token one) (refusal.Check other) is.1 also.1 in cc)
-refused_once name text (fault.Reader a one) (fault.Token b other) is also =
-    absurd (let clash = refusal_once text (refusal.Reader one) (refusal.Token other) is.1 also.1 in cc)
-refused_once name text (fault.Reader a one) (fault.Reader b other) is also =
-    let same = refusal_once text (refusal.Reader one) (refusal.Reader other) is.1 also.1 in
+refused_once name IsRefused once (fault.Token a one) (fault.Reader b other) is also =
+    absurd (let clash = once (refusal.Token one) (refusal.Reader other) is.1 also.1 in cc)
+refused_once name IsRefused once (fault.Token a one) (fault.Check b other) is also =
+    absurd (let clash = once (refusal.Token one) (refusal.Check other) is.1 also.1 in cc)
+refused_once name IsRefused once (fault.Reader a one) (fault.Token b other) is also =
+    absurd (let clash = once (refusal.Reader one) (refusal.Token other) is.1 also.1 in cc)
+refused_once name IsRefused once (fault.Reader a one) (fault.Reader b other) is also =
+    let same = once (refusal.Reader one) (refusal.Reader other) is.1 also.1 in
     let inner : one ≡ other = cc in rw (is.0, also.0, inner) refl
-refused_once name text (fault.Reader a one) (fault.Check b other) is also =
-    absurd (let clash = refusal_once text (refusal.Reader one) (refusal.Check other) is.1 also.1 in cc)
-refused_once name text (fault.Check a one) (fault.Token b other) is also =
-    absurd (let clash = refusal_once text (refusal.Check one) (refusal.Token other) is.1 also.1 in cc)
-refused_once name text (fault.Check a one) (fault.Reader b other) is also =
-    absurd (let clash = refusal_once text (refusal.Check one) (refusal.Reader other) is.1 also.1 in cc)
-refused_once name text (fault.Check a one) (fault.Check b other) is also =
-    let same = refusal_once text (refusal.Check one) (refusal.Check other) is.1 also.1 in
+refused_once name IsRefused once (fault.Reader a one) (fault.Check b other) is also =
+    absurd (let clash = once (refusal.Reader one) (refusal.Check other) is.1 also.1 in cc)
+refused_once name IsRefused once (fault.Check a one) (fault.Token b other) is also =
+    absurd (let clash = once (refusal.Check one) (refusal.Token other) is.1 also.1 in cc)
+refused_once name IsRefused once (fault.Check a one) (fault.Reader b other) is also =
+    absurd (let clash = once (refusal.Check one) (refusal.Reader other) is.1 also.1 in cc)
+refused_once name IsRefused once (fault.Check a one) (fault.Check b other) is also =
+    let same = once (refusal.Check one) (refusal.Check other) is.1 also.1 in
     let inner : one ≡ other = cc in rw (is.0, also.0, inner) refl
-refused_once name text (fault.Token a one) fault.Usage is also = absurd also
-refused_once name text (fault.Token a one) (fault.Read b) is also = absurd also
-refused_once name text (fault.Token a one) (fault.TooLong b) is also = absurd also
-refused_once name text (fault.Token a one) (fault.Different b) is also = absurd also
-refused_once name text (fault.Reader a one) fault.Usage is also = absurd also
-refused_once name text (fault.Reader a one) (fault.Read b) is also = absurd also
-refused_once name text (fault.Reader a one) (fault.TooLong b) is also = absurd also
-refused_once name text (fault.Reader a one) (fault.Different b) is also = absurd also
-refused_once name text (fault.Check a one) fault.Usage is also = absurd also
-refused_once name text (fault.Check a one) (fault.Read b) is also = absurd also
-refused_once name text (fault.Check a one) (fault.TooLong b) is also = absurd also
-refused_once name text (fault.Check a one) (fault.Different b) is also = absurd also
-refused_once name text fault.Usage other is also = absurd is
-refused_once name text (fault.Read a) other is also = absurd is
-refused_once name text (fault.TooLong a) other is also = absurd is
-refused_once name text (fault.Different a) other is also = absurd is
+refused_once name IsRefused once (fault.Token a one) fault.Usage is also = absurd also
+refused_once name IsRefused once (fault.Token a one) (fault.Read b) is also = absurd also
+refused_once name IsRefused once (fault.Token a one) (fault.TooLong b) is also = absurd also
+refused_once name IsRefused once (fault.Token a one) (fault.Arity b) is also = absurd also
+refused_once name IsRefused once (fault.Reader a one) fault.Usage is also = absurd also
+refused_once name IsRefused once (fault.Reader a one) (fault.Read b) is also = absurd also
+refused_once name IsRefused once (fault.Reader a one) (fault.TooLong b) is also = absurd also
+refused_once name IsRefused once (fault.Reader a one) (fault.Arity b) is also = absurd also
+refused_once name IsRefused once (fault.Check a one) fault.Usage is also = absurd also
+refused_once name IsRefused once (fault.Check a one) (fault.Read b) is also = absurd also
+refused_once name IsRefused once (fault.Check a one) (fault.TooLong b) is also = absurd also
+refused_once name IsRefused once (fault.Check a one) (fault.Arity b) is also = absurd also
+refused_once name IsRefused once fault.Usage other is also = absurd is
+refused_once name IsRefused once (fault.Read a) other is also = absurd is
+refused_once name IsRefused once (fault.TooLong a) other is also = absurd is
+refused_once name IsRefused once (fault.Arity a) other is also = absurd is
+
+-- Where nothing is refused, no fault says so.
+none_refused : (name : List ℕ) (IsRefused : TextFault → Type 0) → ((t : TextFault) → ¬ IsRefused t) → (f : Fault) → ¬ RefusesBy name IsRefused f
+none_refused name IsRefused none fault.Usage refuses = refuses
+none_refused name IsRefused none (fault.Read a) refuses = refuses
+none_refused name IsRefused none (fault.TooLong a) refuses = refuses
+none_refused name IsRefused none (fault.Token a inner) refuses = none (refusal.Token inner) refuses.1
+none_refused name IsRefused none (fault.Reader a inner) refuses = none (refusal.Reader inner) refuses.1
+none_refused name IsRefused none (fault.Check a inner) refuses = none (refusal.Check inner) refuses.1
+none_refused name IsRefused none (fault.Arity a) refuses = refuses
+
+text_once : (name text : List ℕ) (one other : Fault) → RefusesText name text one → RefusesText name text other → one ≡ other
+text_once name text one other is also = refused_once name (IsRefusal text) (one_refusal text) one other is also
 
 -- A text that is read as a function is not refused.
 reads_or_refused : (name text : List ℕ) (made : Function) (f : Fault) → Reads text made → RefusesText name text f → ⊥
-reads_or_refused name text made (fault.Token a inner) reads refuses = not_refused text made (refusal.Token inner) reads refuses.1
-reads_or_refused name text made (fault.Reader a inner) reads refuses = not_refused text made (refusal.Reader inner) reads refuses.1
-reads_or_refused name text made (fault.Check a inner) reads refuses = not_refused text made (refusal.Check inner) reads refuses.1
-reads_or_refused name text made fault.Usage reads refuses = refuses
-reads_or_refused name text made (fault.Read a) reads refuses = refuses
-reads_or_refused name text made (fault.TooLong a) reads refuses = refuses
-reads_or_refused name text made (fault.Different a) reads refuses = refuses
+reads_or_refused name text made f reads refuses =
+    none_refused name (IsRefusal text) (λ why. read_is_not_refused text made why reads) f refuses
+
+-- ---- the condition's text
+
+given_refused_once : (func : Function) (given_text : Option (List ℕ)) (one other : Fault) → RefusesGiven func given_text one
+    → RefusesGiven func given_text other → one ≡ other
+given_refused_once func None one other is also = absurd is
+given_refused_once func (Some given_text) one other is also =
+    refused_once (codes "--pre") (IsConditionRefusal func given_text) (one_condition_refusal func given_text) one other is also
+
+given_once : (func : Function) (given_text : Option (List ℕ)) (one other : Option Expr) → IsGivenCondition func given_text one
+    → IsGivenCondition func given_text other → one ≡ other
+given_once func None None None is also = refl
+given_once func None None (Some other) is also = absurd also
+given_once func None (Some one) other is also = absurd is
+given_once func (Some given_text) None other is also = absurd is
+given_once func (Some given_text) (Some one) None is also = absurd also
+given_once func (Some given_text) (Some one) (Some other) is also =
+    ap (λ (made : Expr). Some made) (one_condition func given_text one other is also)
+
+given_or_refused : (func : Function) (given_text : Option (List ℕ)) (made : Option Expr) (f : Fault) → IsGivenCondition func given_text made
+    → RefusesGiven func given_text f → ⊥
+given_or_refused func None made f is refuses = refuses
+given_or_refused func (Some given_text) None f is refuses = is
+given_or_refused func (Some given_text) (Some made) f is refuses =
+    none_refused (codes "--pre") (IsConditionRefusal func given_text) (λ why. read_condition_is_not_refused func given_text made why is) f refuses
 
 -- ---- from the told texts on
+
+-- Two functions that two texts of at most the length that may be are read as.
+record ReadBoth (a b : List ℕ) (first second : Function) : Type 0 where
+  short_first : length a ≤ longest
+  short_second : length b ≤ longest
+  first_reads : Reads a first
+  second_reads : Reads b second
+
+-- The functions of two texts are the same ones.
+both_once : (a b : List ℕ) (f g f' g' : Function) → ReadBoth a b f g → ReadBoth a b f' g' → (f ≡ f') × (g ≡ g')
+both_once a b f g f' g' is also = (one_reading a f f' is.first_reads also.first_reads, one_reading b g g' is.second_reads also.second_reads)
 
 -- What a command and two told texts lead to.
 data Judged (command : Command) (a b : List ℕ) : Outcome → Type 0 where
@@ -84,67 +133,157 @@ data Judged (command : Command) (a b : List ℕ) : Outcome → Type 0 where
   first_bad : (f : Fault) → length a ≤ longest → length b ≤ longest → RefusesText command.first a f → Judged command a b (outcome.Refused f)
   second_bad : (first : Function) (f : Fault) → length a ≤ longest → length b ≤ longest → Reads a first → RefusesText command.second b f
       → Judged command a b (outcome.Refused f)
-  uneven : (first second : Function) → length a ≤ longest → length b ≤ longest → Reads a first → Reads b second → first.params ≢ second.params
-      → Judged command a b (outcome.Refused (fault.Different (arities first second)))
-  even : (first second : Function) (e : Early) → length a ≤ longest → length b ≤ longest → Reads a first → Reads b second → first.params ≡ second.params
-      → Compares (comparison first second command.settings) e → Judged command a b (outcome.Verdict e)
+  uneven : (first second : Function) → ReadBoth a b first second → first.params ≢ second.params
+      → Judged command a b (outcome.Refused (fault.Arity (arities first second)))
+  pre_bad : (first second : Function) (f : Fault) → ReadBoth a b first second → first.params ≡ second.params
+      → RefusesGiven first command.condition f → Judged command a b (outcome.Refused f)
+  even : (first second : Function) (condition : Option Expr) (e : Early) → ReadBoth a b first second → first.params ≡ second.params
+      → IsGivenCondition first command.condition condition → Compares (comparison first second command.settings condition) e
+      → Judged command a b (outcome.Verdict e)
+
+-- the numbers of parameters are equal of both functions, or differ of both
+still_equal : (f g f' g' : Function) → (f ≡ f') × (g ≡ g') → f.params ≡ g.params → f'.params ≡ g'.params
+still_equal f g f' g' same is =
+    sym (ap (λ (f : Function). f.params) same.0) ∙ is ∙ ap (λ (f : Function). f.params) same.1
+
+-- the condition of one and the same function
+same_given : (command : Command) (a b : List ℕ) (f g f' g' : Function) (one other : Option Expr) → ReadBoth a b f g → ReadBoth a b f' g'
+    → IsGivenCondition f command.condition one → IsGivenCondition f' command.condition other → one ≡ other
+same_given command a b f g f' g' one other reads also is is' =
+    given_once f' command.condition one other
+    (subst (λ (f : Function). IsGivenCondition f command.condition one) (both_once a b f g f' g' reads also).0 is) is'
+
+given_clash : (command : Command) (a b : List ℕ) (f g f' g' : Function) (made : Option Expr) (why : Fault) → ReadBoth a b f g → ReadBoth a b f' g'
+    → IsGivenCondition f command.condition made → RefusesGiven f' command.condition why → ⊥
+given_clash command a b f g f' g' made why reads also is refuses =
+    given_or_refused f' command.condition made why
+    (subst (λ (f : Function). IsGivenCondition f command.condition made) (both_once a b f g f' g' reads also).0 is) refuses
 
 judged_once : (command : Command) (a b : List ℕ) (one other : Outcome) → Judged command a b one → Judged command a b other → one ≡ other
-judged_once command a b one other (first_long _) (first_long _) = refl
-judged_once command a b one other (first_long over) (second_long short _) = absurd (omega arith)
-judged_once command a b one other (first_long over) (first_bad _ short _ _) = absurd (omega arith)
-judged_once command a b one other (first_long over) (second_bad _ _ short _ _ _) = absurd (omega arith)
-judged_once command a b one other (first_long over) (uneven _ _ short _ _ _ _) = absurd (omega arith)
-judged_once command a b one other (first_long over) (even _ _ _ short _ _ _ _ _) = absurd (omega arith)
-judged_once command a b one other (second_long short _) (first_long over) = absurd (omega arith)
-judged_once command a b one other (second_long _ _) (second_long _ _) = refl
-judged_once command a b one other (second_long _ over) (first_bad _ _ short _) = absurd (omega arith)
-judged_once command a b one other (second_long _ over) (second_bad _ _ _ short _ _) = absurd (omega arith)
-judged_once command a b one other (second_long _ over) (uneven _ _ _ short _ _ _) = absurd (omega arith)
-judged_once command a b one other (second_long _ over) (even _ _ _ _ short _ _ _ _) = absurd (omega arith)
-judged_once command a b one other (first_bad _ short _ _) (first_long over) = absurd (omega arith)
-judged_once command a b one other (first_bad _ _ short _) (second_long _ over) = absurd (omega arith)
-judged_once command a b one other (first_bad f _ _ is) (first_bad g _ _ also) = ap (λ (f : Fault). outcome.Refused f) (refused_once command.first a f g is also)
-judged_once command a b one other (first_bad f _ _ is) (second_bad first _ _ _ reads _) = absurd (reads_or_refused command.first a first f reads is)
-judged_once command a b one other (first_bad f _ _ is) (uneven first _ _ _ reads _ _) = absurd (reads_or_refused command.first a first f reads is)
-judged_once command a b one other (first_bad f _ _ is) (even first _ _ _ _ reads _ _ _) = absurd (reads_or_refused command.first a first f reads is)
-judged_once command a b one other (second_bad _ _ short _ _ _) (first_long over) = absurd (omega arith)
-judged_once command a b one other (second_bad _ _ _ short _ _) (second_long _ over) = absurd (omega arith)
-judged_once command a b one other (second_bad first _ _ _ reads _) (first_bad f _ _ is) = absurd (reads_or_refused command.first a first f reads is)
-judged_once command a b one other (second_bad _ f _ _ _ is) (second_bad _ g _ _ _ also) = ap (λ (f : Fault). outcome.Refused f) (refused_once command.second b f g is also)
-judged_once command a b one other (second_bad _ f _ _ _ is) (uneven _ second _ _ _ reads _) = absurd (reads_or_refused command.second b second f reads is)
-judged_once command a b one other (second_bad _ f _ _ _ is) (even _ second _ _ _ _ reads _ _) = absurd (reads_or_refused command.second b second f reads is)
-judged_once command a b one other (uneven _ _ short _ _ _ _) (first_long over) = absurd (omega arith)
-judged_once command a b one other (uneven _ _ _ short _ _ _) (second_long _ over) = absurd (omega arith)
-judged_once command a b one other (uneven first _ _ _ reads _ _) (first_bad f _ _ is) = absurd (reads_or_refused command.first a first f reads is)
-judged_once command a b one other (uneven _ second _ _ _ reads _) (second_bad _ f _ _ _ is) = absurd (reads_or_refused command.second b second f reads is)
-judged_once command a b one other (uneven first second _ _ reads reads' _) (uneven first' second' _ _ also also' _) =
-    rw (reading_once a first first' reads also, reading_once b second second' reads' also') refl
-judged_once command a b one other (uneven first second _ _ reads reads' differ) (even first' second' _ _ _ also also' same _) =
-    absurd (differ (ap (λ (f : Function). f.params) (reading_once a first first' reads also) ∙ same ∙ ap (λ (f : Function). f.params) (reading_once b second' second also' reads')))
-judged_once command a b one other (even _ _ _ short _ _ _ _ _) (first_long over) = absurd (omega arith)
-judged_once command a b one other (even _ _ _ _ short _ _ _ _) (second_long _ over) = absurd (omega arith)
-judged_once command a b one other (even first _ _ _ _ reads _ _ _) (first_bad f _ _ is) = absurd (reads_or_refused command.first a first f reads is)
-judged_once command a b one other (even _ second _ _ _ _ reads _ _) (second_bad _ f _ _ _ is) = absurd (reads_or_refused command.second b second f reads is)
-judged_once command a b one other (even first second _ _ _ reads reads' same _) (uneven first' second' _ _ also also' differ) =
-    absurd (differ (ap (λ (f : Function). f.params) (reading_once a first' first also reads) ∙ same ∙ ap (λ (f : Function). f.params) (reading_once b second second' reads' also')))
-judged_once command a b one other (even first second e _ _ reads reads' _ compares) (even first' second' e' _ _ also also' _ compares') =
-    ap (λ (e : Early). outcome.Verdict e) (verdict_once (comparison first' second' command.settings) e e'
-    (subst (λ (s : Comparison). Compares s e) (rw (reading_once a first first' reads also, reading_once b second second' reads' also') refl) compares) compares')
+judged_once command a b one other (first_long over) (first_long over') =
+    refl
+judged_once command a b one other (first_long over) (second_long short' over') =
+    absurd (omega (arith, over, short'))
+judged_once command a b one other (first_long over) (first_bad f' short_a' short_b' is') =
+    absurd (omega (arith, over, short_a'))
+judged_once command a b one other (first_long over) (second_bad first' f' short_a' short_b' reads' is') =
+    absurd (omega (arith, over, short_a'))
+judged_once command a b one other (first_long over) (uneven first' second' both' differ') =
+    absurd (omega (arith, over, both'.short_first))
+judged_once command a b one other (first_long over) (pre_bad first' second' f' both' same' is') =
+    absurd (omega (arith, over, both'.short_first))
+judged_once command a b one other (first_long over) (even first' second' condition' e' both' same' given' compares') =
+    absurd (omega (arith, over, both'.short_first))
+judged_once command a b one other (second_long short over) (first_long over') =
+    absurd (omega (arith, over', short))
+judged_once command a b one other (second_long short over) (second_long short' over') =
+    refl
+judged_once command a b one other (second_long short over) (first_bad f' short_a' short_b' is') =
+    absurd (omega (arith, over, short_b'))
+judged_once command a b one other (second_long short over) (second_bad first' f' short_a' short_b' reads' is') =
+    absurd (omega (arith, over, short_b'))
+judged_once command a b one other (second_long short over) (uneven first' second' both' differ') =
+    absurd (omega (arith, over, both'.short_second))
+judged_once command a b one other (second_long short over) (pre_bad first' second' f' both' same' is') =
+    absurd (omega (arith, over, both'.short_second))
+judged_once command a b one other (second_long short over) (even first' second' condition' e' both' same' given' compares') =
+    absurd (omega (arith, over, both'.short_second))
+judged_once command a b one other (first_bad f short_a short_b is) (first_long over') =
+    absurd (omega (arith, over', short_a))
+judged_once command a b one other (first_bad f short_a short_b is) (second_long short' over') =
+    absurd (omega (arith, over', short_b))
+judged_once command a b one other (first_bad f short_a short_b is) (first_bad f' short_a' short_b' is') =
+    ap (λ (f : Fault). outcome.Refused f) (text_once command.first a f f' is is')
+judged_once command a b one other (first_bad f short_a short_b is) (second_bad first' f' short_a' short_b' reads' is') =
+    absurd (reads_or_refused command.first a first' f reads' is)
+judged_once command a b one other (first_bad f short_a short_b is) (uneven first' second' both' differ') =
+    absurd (reads_or_refused command.first a first' f both'.first_reads is)
+judged_once command a b one other (first_bad f short_a short_b is) (pre_bad first' second' f' both' same' is') =
+    absurd (reads_or_refused command.first a first' f both'.first_reads is)
+judged_once command a b one other (first_bad f short_a short_b is) (even first' second' condition' e' both' same' given' compares') =
+    absurd (reads_or_refused command.first a first' f both'.first_reads is)
+judged_once command a b one other (second_bad first f short_a short_b reads is) (first_long over') =
+    absurd (omega (arith, over', short_a))
+judged_once command a b one other (second_bad first f short_a short_b reads is) (second_long short' over') =
+    absurd (omega (arith, over', short_b))
+judged_once command a b one other (second_bad first f short_a short_b reads is) (first_bad f' short_a' short_b' is') =
+    absurd (reads_or_refused command.first a first f' reads is')
+judged_once command a b one other (second_bad first f short_a short_b reads is) (second_bad first' f' short_a' short_b' reads' is') =
+    ap (λ (f : Fault). outcome.Refused f) (text_once command.second b f f' is is')
+judged_once command a b one other (second_bad first f short_a short_b reads is) (uneven first' second' both' differ') =
+    absurd (reads_or_refused command.second b second' f both'.second_reads is)
+judged_once command a b one other (second_bad first f short_a short_b reads is) (pre_bad first' second' f' both' same' is') =
+    absurd (reads_or_refused command.second b second' f both'.second_reads is)
+judged_once command a b one other (second_bad first f short_a short_b reads is) (even first' second' condition' e' both' same' given' compares') =
+    absurd (reads_or_refused command.second b second' f both'.second_reads is)
+judged_once command a b one other (uneven first second both differ) (first_long over') =
+    absurd (omega (arith, over', both.short_first))
+judged_once command a b one other (uneven first second both differ) (second_long short' over') =
+    absurd (omega (arith, over', both.short_second))
+judged_once command a b one other (uneven first second both differ) (first_bad f' short_a' short_b' is') =
+    absurd (reads_or_refused command.first a first f' both.first_reads is')
+judged_once command a b one other (uneven first second both differ) (second_bad first' f' short_a' short_b' reads' is') =
+    absurd (reads_or_refused command.second b second f' both.second_reads is')
+judged_once command a b one other (uneven first second both differ) (uneven first' second' both' differ') =
+    let same = both_once a b first second first' second' both both' in rw (same.0, same.1) refl
+judged_once command a b one other (uneven first second both differ) (pre_bad first' second' f' both' same' is') =
+    absurd (differ (still_equal first' second' first second (both_once a b first' second' first second both' both) same'))
+judged_once command a b one other (uneven first second both differ) (even first' second' condition' e' both' same' given' compares') =
+    absurd (differ (still_equal first' second' first second (both_once a b first' second' first second both' both) same'))
+judged_once command a b one other (pre_bad first second f both same is) (first_long over') =
+    absurd (omega (arith, over', both.short_first))
+judged_once command a b one other (pre_bad first second f both same is) (second_long short' over') =
+    absurd (omega (arith, over', both.short_second))
+judged_once command a b one other (pre_bad first second f both same is) (first_bad f' short_a' short_b' is') =
+    absurd (reads_or_refused command.first a first f' both.first_reads is')
+judged_once command a b one other (pre_bad first second f both same is) (second_bad first' f' short_a' short_b' reads' is') =
+    absurd (reads_or_refused command.second b second f' both.second_reads is')
+judged_once command a b one other (pre_bad first second f both same is) (uneven first' second' both' differ') =
+    absurd (differ' (still_equal first second first' second' (both_once a b first second first' second' both both') same))
+judged_once command a b one other (pre_bad first second f both same is) (pre_bad first' second' f' both' same' is') =
+    ap (λ (f : Fault). outcome.Refused f) (given_refused_once first' command.condition f f'
+    (subst (λ (first : Function). RefusesGiven first command.condition f) (both_once a b first second first' second' both both').0 is) is')
+judged_once command a b one other (pre_bad first second f both same is) (even first' second' condition' e' both' same' given' compares') =
+    absurd (given_clash command a b first' second' first second condition' f both' both given' is)
+judged_once command a b one other (even first second condition e both same given compares) (first_long over') =
+    absurd (omega (arith, over', both.short_first))
+judged_once command a b one other (even first second condition e both same given compares) (second_long short' over') =
+    absurd (omega (arith, over', both.short_second))
+judged_once command a b one other (even first second condition e both same given compares) (first_bad f' short_a' short_b' is') =
+    absurd (reads_or_refused command.first a first f' both.first_reads is')
+judged_once command a b one other (even first second condition e both same given compares) (second_bad first' f' short_a' short_b' reads' is') =
+    absurd (reads_or_refused command.second b second f' both.second_reads is')
+judged_once command a b one other (even first second condition e both same given compares) (uneven first' second' both' differ') =
+    absurd (differ' (still_equal first second first' second' (both_once a b first second first' second' both both') same))
+judged_once command a b one other (even first second condition e both same given compares) (pre_bad first' second' f' both' same' is') =
+    absurd (given_clash command a b first second first' second' condition f' both both' given is')
+judged_once command a b one other (even first second condition e both same given compares) (even first' second' condition' e' both' same' given' compares') =
+    let functions = both_once a b first second first' second' both both' in
+    let conditions = same_given command a b first second first' second' condition condition' both both' given given' in
+    ap (λ (e : Early). outcome.Verdict e) (verdict_once (comparison first' second' command.settings condition') e e'
+    (subst (λ (s : Comparison). Compares s e) (rw (functions.0, functions.1, conditions) refl) compares) compares')
 
 -- Where a sample tells the functions of the two texts apart, that is what they lead to.
-apart_judged : (command : Command) (a b : List ℕ) (f g : Function) (index : ℕ) (pair : Pair) (o : Outcome) → length a ≤ longest → length b ≤ longest
-    → Reads a f → Reads b g → f.params ≡ g.params → index < command.settings.samples → TellsApart (comparison f g command.settings) index pair
-    → Judged command a b o → status_of o ≡ 1
-apart_judged command a b f g index pair o short_a short_b reads reads' same below apart (first_long over) = absurd (omega arith)
-apart_judged command a b f g index pair o short_a short_b reads reads' same below apart (second_long _ over) = absurd (omega arith)
-apart_judged command a b f g index pair o short_a short_b reads reads' same below apart (first_bad why _ _ is) = absurd (reads_or_refused command.first a f why reads is)
-apart_judged command a b f g index pair o short_a short_b reads reads' same below apart (second_bad _ why _ _ _ is) = absurd (reads_or_refused command.second b g why reads' is)
-apart_judged command a b f g index pair o short_a short_b reads reads' same below apart (uneven first second _ _ also also' differ) =
-    absurd (differ (ap (λ (f : Function). f.params) (reading_once a first f also reads) ∙ same ∙ ap (λ (f : Function). f.params) (reading_once b g second reads' also')))
-apart_judged command a b f g index pair o short_a short_b reads reads' same below apart (even first second e _ _ also also' _ compares) =
-    apart_different (comparison f g command.settings) index pair e below apart
-    (subst (λ (s : Comparison). Compares s e) (rw (reading_once a first f also reads, reading_once b second g also' reads') refl) compares)
+apart_judged : (command : Command) (a b : List ℕ) (f g : Function) (made : Option Expr) (index : ℕ) (pair : Pair) (o : Outcome) → ReadBoth a b f g
+    → f.params ≡ g.params → IsGivenCondition f command.condition made → index < command.settings.samples
+    → TellsApart (comparison f g command.settings made) index pair → Judged command a b o → status_of o ≡ 1
+apart_judged command a b f g made index pair o read equal is_made below apart (first_long over) =
+    absurd (omega (arith, over, read.short_first))
+apart_judged command a b f g made index pair o read equal is_made below apart (second_long _ over) =
+    absurd (omega (arith, over, read.short_second))
+apart_judged command a b f g made index pair o read equal is_made below apart (first_bad why _ _ is) =
+    absurd (reads_or_refused command.first a f why read.first_reads is)
+apart_judged command a b f g made index pair o read equal is_made below apart (second_bad _ why _ _ _ is) =
+    absurd (reads_or_refused command.second b g why read.second_reads is)
+apart_judged command a b f g made index pair o read equal is_made below apart (uneven first second both differ) =
+    absurd (differ (still_equal f g first second (both_once a b f g first second read both) equal))
+apart_judged command a b f g made index pair o read equal is_made below apart (pre_bad first second why both _ is) =
+    absurd (given_clash command a b f g first second made why read both is_made is)
+apart_judged command a b f g made index pair o read equal is_made below apart (even first second condition e both _ given compares) =
+    let functions = both_once a b first second f g both read in
+    let conditions = same_given command a b first second f g condition made both read given is_made in
+    apart_different (comparison f g command.settings made) index pair e below apart
+    (subst (λ (s : Comparison). Compares s e) (rw (functions.0, functions.1, conditions) refl) compares)
 
 -- ---- from the words on
 
@@ -168,32 +307,52 @@ module _ (words : List (List ℕ)) (text : List ℕ → Option (List ℕ)) (befo
     judged : (command : Command) (a b : List ℕ) (o : Outcome) → IsCommand words command → text command.first ≡ Some a → text command.second ≡ Some b
         → Judged command a b o → Settled o
 
-  settled_by : (command : Command) (commands : IsCommand words command) (o : Outcome) → Judged command (a_of command commands) (b_of command commands) o → Settled o
-  settled_by command commands o is = judged command (a_of command commands) (b_of command commands) o commands (told.first command commands).1 (told.second command commands).1 is
+  settled_by : (command : Command) (commands : IsCommand words command) (o : Outcome) → Judged command (a_of command commands) (b_of command commands) o
+      → Settled o
+  settled_by command commands o is = judged command (a_of command commands)
+      (b_of command commands) o commands (told.first command commands).1 (told.second command commands).1 is
 
   unread_first : (command : Command) (commands : IsCommand words command) (f : Fault) → fault_status f ≢ 4
       → RefusesRead text before after command.first f → Judged command (a_of command commands) (b_of command commands) (outcome.Refused f)
   unread_first command commands (fault.Read named) read refuses = absurd (read refl)
   unread_first command commands (fault.TooLong named) read refuses =
       let over : longest < length (a_of command commands) = subst IsLong (told.first command commands).1 refuses.1 in
-      subst (λ (name : List ℕ). Judged command (a_of command commands) (b_of command commands) (outcome.Refused (fault.TooLong name))) (sym refuses.0) (first_long over)
+      subst (λ (name : List ℕ). Judged command (a_of command commands) (b_of command commands) (outcome.Refused (fault.TooLong name))) (sym refuses.0)
+      (first_long over)
   unread_first command commands fault.Usage read refuses = absurd refuses
   unread_first command commands (fault.Token named inner) read refuses = absurd refuses
   unread_first command commands (fault.Reader named inner) read refuses = absurd refuses
   unread_first command commands (fault.Check named inner) read refuses = absurd refuses
-  unread_first command commands (fault.Different arity) read refuses = absurd refuses
+  unread_first command commands (fault.Arity arity) read refuses = absurd refuses
 
   unread_second : (command : Command) (commands : IsCommand words command) (f : Fault) → fault_status f ≢ 4
-      → length (a_of command commands) ≤ longest → RefusesRead text before after command.second f → Judged command (a_of command commands) (b_of command commands) (outcome.Refused f)
+      → length (a_of command commands) ≤ longest → RefusesRead text before after command.second f
+      → Judged command (a_of command commands) (b_of command commands) (outcome.Refused f)
   unread_second command commands (fault.Read named) read short refuses = absurd (read refl)
   unread_second command commands (fault.TooLong named) read short refuses =
       let over : longest < length (b_of command commands) = subst IsLong (told.second command commands).1 refuses.1 in
-      subst (λ (name : List ℕ). Judged command (a_of command commands) (b_of command commands) (outcome.Refused (fault.TooLong name))) (sym refuses.0) (second_long short over)
+      subst (λ (name : List ℕ). Judged command (a_of command commands) (b_of command commands) (outcome.Refused (fault.TooLong name))) (sym refuses.0)
+      (second_long short over)
   unread_second command commands fault.Usage read short refuses = absurd refuses
   unread_second command commands (fault.Token named inner) read short refuses = absurd refuses
   unread_second command commands (fault.Reader named inner) read short refuses = absurd refuses
   unread_second command commands (fault.Check named inner) read short refuses = absurd refuses
-  unread_second command commands (fault.Different arity) read short refuses = absurd refuses
+  unread_second command commands (fault.Arity arity) read short refuses = absurd refuses
+
+  -- Both functions are those of the told texts.
+  read_both : (functions : AreFunctions words text)
+      → ReadBoth (a_of functions.files.command functions.files.commands)
+      (b_of functions.files.command functions.files.commands) functions.first functions.second
+  read_both functions =
+      let files = functions.files in
+      let first = read_told files.command.first files.first_text _ (told.first files.command files.commands).1 files.first_read in
+      let second = read_told files.command.second files.second_text _ (told.second files.command files.commands).1 files.second_read in
+      record {
+        short_first = first.1;
+        short_second = second.1;
+        first_reads = subst (λ (list : List ℕ). Reads list functions.first) first.0 functions.first_parsed;
+        second_reads = subst (λ (list : List ℕ). Reads list functions.second) second.0 functions.second_parsed;
+      }
 
   -- The outcome is no failed read.
   settled : (o : Outcome) → status_of o ≢ 4 → Leads words text before after o → Settled o
@@ -211,27 +370,20 @@ module _ (words : List (List ℕ)) (text : List ℕ → Option (List ℕ)) (befo
       settled_by files.command files.commands _ (second_bad made f first.1 second.1 (subst (λ (list : List ℕ). Reads list made) first.0 reads)
       (subst (λ (list : List ℕ). RefusesText files.command.second list f) second.0 refuses))
   settled o is_read (other_arity functions differ) =
-      let files = functions.files in
-      let first = read_told files.command.first files.first_text _ (told.first files.command files.commands).1 files.first_read in
-      let second = read_told files.command.second files.second_text _ (told.second files.command files.commands).1 files.second_read in
-      settled_by files.command files.commands _ (uneven functions.first functions.second first.1 second.1
-      (subst (λ (list : List ℕ). Reads list functions.first) first.0 functions.first_parsed)
-      (subst (λ (list : List ℕ). Reads list functions.second) second.0 functions.second_parsed) differ)
+      settled_by functions.files.command functions.files.commands _ (uneven functions.first functions.second (read_both functions) differ)
+  settled o is_read (condition_refused functions f same refuses) =
+      settled_by functions.files.command functions.files.commands _ (pre_bad functions.first functions.second f (read_both functions) same refuses)
   settled o is_read (compared comparable e compares) =
       let functions = comparable.functions in
-      let files = functions.files in
-      let first = read_told files.command.first files.first_text _ (told.first files.command files.commands).1 files.first_read in
-      let second = read_told files.command.second files.second_text _ (told.second files.command files.commands).1 files.second_read in
-      settled_by files.command files.commands _ (even functions.first functions.second e first.1 second.1
-      (subst (λ (list : List ℕ). Reads list functions.first) first.0 functions.first_parsed)
-      (subst (λ (list : List ℕ). Reads list functions.second) second.0 functions.second_parsed) comparable.arity compares)
+      settled_by functions.files.command functions.files.commands _
+      (even functions.first functions.second comparable.condition e (read_both functions) comparable.arity comparable.given compares)
 
   settled_once : (one other : Outcome) → Settled one → Settled other → one ≡ other
   settled_once one other (nothing _) (nothing _) = refl
   settled_once one other (nothing without) (judged command _ _ _ commands _ _ _) = absurd (without command commands)
   settled_once one other (judged command _ _ _ commands _ _ _) (nothing without) = absurd (without command commands)
   settled_once one other (judged command a b _ commands first second is) (judged command' a' b' _ commands' first' second' also) =
-      let same = one_command_only words command command' commands commands' in
+      let same = one_command words command command' commands commands' in
       let firsts : a ≡ a' = let wrapped : Some a ≡ Some a' = sym first ∙ ap (λ (c : Command). text c.first) same ∙ first' in cc in
       let seconds : b ≡ b' = let wrapped : Some b ≡ Some b' = sym second ∙ ap (λ (c : Command). text c.second) same ∙ second' in cc in
       judged_once command' a' b' one other
@@ -243,14 +395,21 @@ module _ (words : List (List ℕ)) (text : List ℕ → Option (List ℕ)) (befo
   apart_settled different o (judged command a b _ commands is_first is_second is) =
       let functions = different.comparable.functions in
       let files = functions.files in
-      let same : files.command ≡ command = one_command_only words files.command command files.commands commands in
+      let same : files.command ≡ command = one_command words files.command command files.commands commands in
       let first = read_told files.command.first files.first_text a (ap (λ (c : Command). text c.first) same ∙ is_first) files.first_read in
       let second = read_told files.command.second files.second_text b (ap (λ (c : Command). text c.second) same ∙ is_second) files.second_read in
-      apart_judged command a b functions.first functions.second different.index different.pair o first.1 second.1
-      (subst (λ (list : List ℕ). Reads list functions.first) first.0 functions.first_parsed)
-      (subst (λ (list : List ℕ). Reads list functions.second) second.0 functions.second_parsed) different.comparable.arity
+      let both : ReadBoth a b functions.first functions.second = record {
+        short_first = first.1;
+        short_second = second.1;
+        first_reads = subst (λ (list : List ℕ). Reads list functions.first) first.0 functions.first_parsed;
+        second_reads = subst (λ (list : List ℕ). Reads list functions.second) second.0 functions.second_parsed;
+      } in
+      apart_judged command a b functions.first functions.second different.comparable.condition different.index different.pair o both
+      different.comparable.arity
+      (subst (λ (c : Command). IsGivenCondition functions.first c.condition different.comparable.condition) same different.comparable.given)
       (subst (λ (c : Command). different.index < c.settings.samples) same different.below)
-      (subst (λ (c : Command). TellsApart (comparison functions.first functions.second c.settings) different.index different.pair) same different.apart) is
+      (subst (λ (c : Command). TellsApart (comparison functions.first functions.second c.settings different.comparable.condition)
+      different.index different.pair) same different.apart) is
 
 -- Words and told texts lead to one outcome at most, apart from a failed read.
 pub outcome_once : HasOneOutcome

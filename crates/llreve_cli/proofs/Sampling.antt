@@ -3,7 +3,7 @@ use Rattle.std.proofs.Common.{◌≡◌, ℕ, zero, suc, ◌+◌, ◌<◌, ◌�
 use Rattle.c_ast.specs.declared.trace.Pair.{Pair}
 use Rattle.c_ast.specs.Comparison.{Comparison}
 use Rattle.trace_pair.specs.declared.skipped.Skipped.{Skipped}
-use Rattle.trace_pair.proofs.Answering.{one_pair, pair_is_no_skip}
+use Rattle.trace_pair.proofs.Laws.{one_pair, pair_is_no_skip}
 use Rattle.llreve_cli.specs.Samples.{TellsApart, IsAlike, AreAlike}
 
 module _ (subject : Comparison) where
@@ -29,7 +29,8 @@ module _ (subject : Comparison) where
   not_both index pair (Some skipped) apart alike = pair_is_no_skip subject index pair skipped apart.is alike
 
   -- None of the samples that are alike tells the functions apart.
-  pub alike_not_apart : (samples : List (Option Skipped)) → AreAlike subject 0 samples → (index : ℕ) (pair : Pair) → index < length samples → ¬ TellsApart subject index pair
+  pub alike_not_apart : (samples : List (Option Skipped)) → AreAlike subject 0 samples → (index : ℕ) (pair : Pair) → index < length samples
+      → ¬ TellsApart subject index pair
   alike_not_apart samples are index pair below apart =
       let found = alike_at 0 index samples below are in
       let same : 0 + index ≡ index = omega arith in

@@ -1,6 +1,7 @@
 -- What the statuses tell.
 use Rattle.std.proofs.Common.{◌≡◌, ◌≢◌, ℕ, ◌<◌, ◌≤◌, suc, ◌∷◌, [], List, Option, Some, None, ℤ, refl, sym, ◌∙◌, subst, arith, ◌⊎◌, inl, inr, append-nil}
 use Rattle.std.specs.Io.KnownBytes.{Appends, Keeps}
+use Rattle.std.specs.Prelude.{codes}
 use Rattle.std.specs.List.{All}
 use Rattle.std.proofs.lemmas.List.Elements.{All-cons}
 use Rattle.re_base.specs.Causes.{Rose}
@@ -10,8 +11,8 @@ use Rattle.c_ast.specs.Comparison.{Comparison}
 use Rattle.graph_run.specs.declared.skip.Skip.{Skip}
 use Rattle.graph_run.specs.declared.skip.Skip.TheVariants as skip
 use Rattle.trace_pair.specs.declared.skipped.Skipped.{Skipped}
-use Rattle.trace_pair.specs.Pairs.{IsSkippedOn, input_at}
-use Rattle.trace_pair.proofs.Answering.{pair_has_traces}
+use Rattle.trace_pair.specs.Pairs.{IsSkippedOn, IsCauseOf, input_at}
+use Rattle.trace_pair.proofs.Laws.{pair_has_traces}
 use Rattle.report.specs.declared.early.Early.{Early}
 use Rattle.report.specs.declared.early.Early.TheVariants as early
 use Rattle.report.specs.declared.fault.Fault.{Fault}
@@ -19,25 +20,37 @@ use Rattle.report.specs.declared.fault.Fault.TheVariants as fault
 use Rattle.report.specs.Samples.{IsKeptSample}
 use Rattle.report.specs.Early.{IsKeptEarly, early_text}
 use Rattle.report.specs.Faults.{IsKept, fault_text}
+use Rattle.c_ast.specs.Function.{Function}
+use Rattle.c_source.specs.declared.fault.TextFault.{TextFault}
+use Rattle.c_source.specs.declared.fault.TextFault.TheVariants as refusal
+use Rattle.c_source.specs.TextFaults.{IsNoWant}
+use Rattle.c_source.specs.Reads.{IsRefusal}
+use Rattle.c_source.specs.ReadsCondition.{IsConditionRefusal}
+use Rattle.c_source.proofs.Laws.{refusal_is_no_want, condition_refusal_is_no_want}
 use Rattle.llreve_cli.specs.declared.outcome.Outcome.{Outcome}
 use Rattle.llreve_cli.specs.declared.outcome.Outcome.TheVariants as outcome
 use Rattle.llreve_cli.specs.Samples.{IsAlike, AreAlike, IsDifference}
 use Rattle.llreve_cli.specs.Compare.{Compares}
-use Rattle.llreve_cli.specs.Leads.{AreComparable, subject_of, RefusesRead, RefusesText, Leads, no_command, first_unread, second_unread, first_refused, second_refused, other_arity, compared}
+use Rattle.llreve_cli.specs.Leads.{AreComparable, subject_of, RefusesRead, RefusesBy, RefusesGiven, Leads, no_command, first_unread, second_unread, first_refused, second_refused, other_arity, condition_refused, compared}
 use Rattle.llreve_cli.specs.Written.{fault_status, early_status, IsKeptOutcome}
 use Rattle.llreve_cli.specs.Tells.{Cut, Tells}
 use Rattle.llreve_cli.specs.Answers.{AreEquivalent, AreDifferent, AreUnknown, AreRefused, AreUnread}
-use Rattle.llreve_cli.proofs.Reading.{first_fault-no_want, unread-no_want}
 
 -- ---- nothing that is told is want of memory
 
-skipped_kept : (subject : Comparison) (input : List ℤ) (on : Side) (why : Skip) → IsSkippedOn subject input on why → why ≢ skip.Memory
-skipped_kept subject input side.A skip.NotEnded is same = cc
-skipped_kept subject input side.A skip.Wide is same = cc
-skipped_kept subject input side.A skip.Memory is same = is
-skipped_kept subject input side.B skip.NotEnded is same = cc
-skipped_kept subject input side.B skip.Wide is same = cc
-skipped_kept subject input side.B skip.Memory is same = is.1
+skipped_kept : (subject : Comparison) (input : List ℤ) (on : Side) (why : Skip) → IsSkippedOn subject input on why → IsCauseOf on why
+skipped_kept subject input side.A skip.NotEnded is = tt
+skipped_kept subject input side.A skip.Wide is = tt
+skipped_kept subject input side.A skip.Unmet is = is.1
+skipped_kept subject input side.A skip.Memory is = is.1
+skipped_kept subject input side.B skip.NotEnded is = tt
+skipped_kept subject input side.B skip.Wide is = tt
+skipped_kept subject input side.B skip.Unmet is = is.2
+skipped_kept subject input side.B skip.Memory is = is.2
+skipped_kept subject input side.Pre skip.NotEnded is = is
+skipped_kept subject input side.Pre skip.Wide is = tt
+skipped_kept subject input side.Pre skip.Unmet is = tt
+skipped_kept subject input side.Pre skip.Memory is = is
 
 sample_kept : (subject : Comparison) (index : ℕ) (sample : Option Skipped) → IsAlike subject index sample → IsKeptSample sample
 sample_kept subject index None alike = tt
@@ -60,25 +73,36 @@ unread_kept text before after name (fault.TooLong named) refuses = tt
 unread_kept text before after name (fault.Token named inner) refuses = absurd refuses
 unread_kept text before after name (fault.Reader named inner) refuses = absurd refuses
 unread_kept text before after name (fault.Check named inner) refuses = absurd refuses
-unread_kept text before after name (fault.Different arity) refuses = tt
+unread_kept text before after name (fault.Arity arity) refuses = tt
 
-refused_kept : (name text : List ℕ) (f : Fault) → RefusesText name text f → IsKept f
-refused_kept name text fault.Usage refuses = tt
-refused_kept name text (fault.Read named) refuses = tt
-refused_kept name text (fault.TooLong named) refuses = tt
-refused_kept name text (fault.Token named inner) refuses = first_fault-no_want text inner refuses.1
-refused_kept name text (fault.Reader named inner) refuses = unread-no_want text inner refuses.1
-refused_kept name text (fault.Check named inner) refuses = refuses.1.no_want
-refused_kept name text (fault.Different arity) refuses = tt
+refused_kept : (name : List ℕ) (IsRefused : TextFault → Type 0) → ((t : TextFault) → IsRefused t → IsNoWant t) → (f : Fault)
+    → RefusesBy name IsRefused f → IsKept f
+refused_kept name IsRefused no_want fault.Usage refuses = tt
+refused_kept name IsRefused no_want (fault.Read named) refuses = tt
+refused_kept name IsRefused no_want (fault.TooLong named) refuses = tt
+refused_kept name IsRefused no_want (fault.Token named inner) refuses = no_want (refusal.Token inner) refuses.1
+refused_kept name IsRefused no_want (fault.Reader named inner) refuses = no_want (refusal.Reader inner) refuses.1
+refused_kept name IsRefused no_want (fault.Check named inner) refuses = no_want (refusal.Check inner) refuses.1
+refused_kept name IsRefused no_want (fault.Arity arity) refuses = tt
+
+given_kept : (func : Function) (given_text : Option (List ℕ)) (f : Fault) → RefusesGiven func given_text f → IsKept f
+given_kept func None f refuses = absurd refuses
+given_kept func (Some given_text) f refuses =
+    refused_kept (codes "--pre") (IsConditionRefusal func given_text) (condition_refusal_is_no_want func given_text) f refuses
 
 -- What the words and the files lead to holds no want of memory.
-pub leads_kept : (words : List (List ℕ)) (text : List ℕ → Option (List ℕ)) (before after : List ℕ → ℕ) (o : Outcome) → Leads words text before after o → IsKeptOutcome o
+pub leads_kept : (words : List (List ℕ)) (text : List ℕ → Option (List ℕ)) (before after : List ℕ → ℕ) (o : Outcome) → Leads words text before after o
+    → IsKeptOutcome o
 leads_kept words text before after o (no_command _) = tt
 leads_kept words text before after o (first_unread command f commands refuses) = unread_kept text before after command.first f refuses
 leads_kept words text before after o (second_unread command bytes f commands read refuses) = unread_kept text before after command.second f refuses
-leads_kept words text before after o (first_refused files f refuses) = refused_kept files.command.first files.first_text f refuses
-leads_kept words text before after o (second_refused files first f reads refuses) = refused_kept files.command.second files.second_text f refuses
+leads_kept words text before after o (first_refused files f refuses) = refused_kept files.command.first (IsRefusal files.first_text)
+    (refusal_is_no_want files.first_text) f refuses
+leads_kept words text before after o (second_refused files first f reads refuses) = refused_kept files.command.second (IsRefusal files.second_text)
+    (refusal_is_no_want files.second_text) f refuses
 leads_kept words text before after o (other_arity _ _) = tt
+leads_kept words text before after o (condition_refused functions f _ refuses) =
+    given_kept functions.first functions.files.command.condition f refuses
 leads_kept words text before after o (compared comparable e compares) = early_kept (subject_of comparable) e compares
 
 -- ---- what a verdict says
@@ -97,7 +121,7 @@ refused-status (fault.TooLong name) = omega arith
 refused-status (fault.Token name inner) = omega arith
 refused-status (fault.Reader name inner) = omega arith
 refused-status (fault.Check name inner) = omega arith
-refused-status (fault.Different arity) = omega arith
+refused-status (fault.Arity arity) = omega arith
 
 -- A verdict has a status below 3.
 verdict-status : (e : Early) → early_status e < 3
@@ -106,14 +130,20 @@ verdict-status (early.Different index input first second) = omega arith
 verdict-status (early.Unknown samples) = omega arith
 
 -- No text is refused by a failed read.
-no_failed_read : (name text : List ℕ) (f : Fault) (failed : List ℕ) → f ≡ fault.Read failed → ¬ RefusesText name text f
-no_failed_read name text fault.Usage failed same refuses = refuses
-no_failed_read name text (fault.Read named) failed same refuses = refuses
-no_failed_read name text (fault.TooLong named) failed same refuses = refuses
-no_failed_read name text (fault.Token named inner) failed same refuses = cc
-no_failed_read name text (fault.Reader named inner) failed same refuses = cc
-no_failed_read name text (fault.Check named inner) failed same refuses = cc
-no_failed_read name text (fault.Different arity) failed same refuses = refuses
+no_failed_read : (name : List ℕ) (IsRefused : TextFault → Type 0) (f : Fault) (failed : List ℕ) → f ≡ fault.Read failed → ¬ RefusesBy name IsRefused f
+no_failed_read name IsRefused fault.Usage failed same refuses = refuses
+no_failed_read name IsRefused (fault.Read named) failed same refuses = refuses
+no_failed_read name IsRefused (fault.TooLong named) failed same refuses = refuses
+no_failed_read name IsRefused (fault.Token named inner) failed same refuses = cc
+no_failed_read name IsRefused (fault.Reader named inner) failed same refuses = cc
+no_failed_read name IsRefused (fault.Check named inner) failed same refuses = cc
+no_failed_read name IsRefused (fault.Arity arity) failed same refuses = refuses
+
+no_failed_condition : (func : Function) (given_text : Option (List ℕ)) (f : Fault) (failed : List ℕ) → f ≡ fault.Read failed
+    → ¬ RefusesGiven func given_text f
+no_failed_condition func None f failed same refuses = refuses
+no_failed_condition func (Some given_text) f failed same refuses =
+    no_failed_read (codes "--pre") (IsConditionRefusal func given_text) f failed same refuses
 
 read_rose : (text : List ℕ → Option (List ℕ)) (before after : List ℕ → ℕ) (name : List ℕ) (f : Fault) (failed : List ℕ)
     → f ≡ fault.Read failed → RefusesRead text before after name f → Rose (before failed) (after failed)
@@ -125,7 +155,7 @@ read_rose text before after name fault.Usage failed same refuses = absurd refuse
 read_rose text before after name (fault.Token named inner) failed same refuses = absurd refuses
 read_rose text before after name (fault.Reader named inner) failed same refuses = absurd refuses
 read_rose text before after name (fault.Check named inner) failed same refuses = absurd refuses
-read_rose text before after name (fault.Different arity) failed same refuses = absurd refuses
+read_rose text before after name (fault.Arity arity) failed same refuses = absurd refuses
 
 module _ (words : List (List ℕ)) (text : List ℕ → Option (List ℕ)) (before after : List ℕ → ℕ) where
   -- A file that was not read is one whose count of faults rose.
@@ -135,10 +165,12 @@ module _ (words : List (List ℕ)) (text : List ℕ → Option (List ℕ)) (befo
   leads-failed o name (first_unread command f _ refuses) same = read_rose text before after command.first f name (cc) refuses
   leads-failed o name (second_unread command _ f _ _ refuses) same = read_rose text before after command.second f name (cc) refuses
   leads-failed o name (first_refused files f refuses) same =
-      absurd (no_failed_read files.command.first files.first_text f name (cc) refuses)
+      absurd (no_failed_read files.command.first (IsRefusal files.first_text) f name (cc) refuses)
   leads-failed o name (second_refused files _ f _ refuses) same =
-      absurd (no_failed_read files.command.second files.second_text f name (cc) refuses)
+      absurd (no_failed_read files.command.second (IsRefusal files.second_text) f name (cc) refuses)
   leads-failed o name (other_arity _ _) same = absurd cc
+  leads-failed o name (condition_refused functions f _ refuses) same =
+      absurd (no_failed_condition functions.first functions.files.command.condition f name (cc) refuses)
   leads-failed o name (compared _ _ _) same = absurd cc
 
   -- a verdict of functions that can be compared
@@ -152,6 +184,7 @@ module _ (words : List (List ℕ)) (text : List ℕ → Option (List ℕ)) (befo
   leads-verdict o (first_refused _ _ _) e same = absurd cc
   leads-verdict o (second_refused _ _ _ _ _) e same = absurd cc
   leads-verdict o (other_arity _ _) e same = absurd cc
+  leads-verdict o (condition_refused _ _ _ _) e same = absurd cc
   leads-verdict o (compared comparable told compares) e same =
       let equal : told ≡ e = cc in (comparable, subst (λ (told : Early). Compares (subject_of comparable) told) equal compares)
 
@@ -194,6 +227,7 @@ module _ (words : List (List ℕ)) (text : List ℕ → Option (List ℕ)) (befo
                 first = first;
                 second = second;
                 difference = difference;
+                met = rw difference.of_input traces.met;
                 first_returns = rw (difference.of_input, difference.of_first) traces.first.returns;
                 second_returns = rw (difference.of_input, difference.of_second) traces.second.returns;
               },
@@ -254,7 +288,7 @@ module _ (words : List (List ℕ)) (text : List ℕ → Option (List ℕ)) (befo
         on (fault.Token name inner) same told = absurd (omega (arith, same))
         on (fault.Reader name inner) same told = absurd (omega (arith, same))
         on (fault.Check name inner) same told = absurd (omega (arith, same))
-        on (fault.Different arity) same told = absurd (omega (arith, same))
+        on (fault.Arity arity) same told = absurd (omega (arith, same))
 
 -- ---- what a failed write says
 

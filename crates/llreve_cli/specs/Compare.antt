@@ -6,7 +6,7 @@ use Rattle.c_ast.specs.View.{expression_of}
 use Rattle.c_ast.specs.Value.{eval}
 use Rattle.c_ast.specs.Function.{Function, ReturnsOne, program_of}
 use Rattle.c_ast.specs.Returns.{NeverDiffer}
-use Rattle.c_ast.specs.Comparison.{Comparison}
+use Rattle.c_ast.specs.Comparison.{Comparison, condition_of}
 use Rattle.lin_terms.specs.declared.form.Form.{Form}
 use Rattle.trace_pair.specs.declared.skipped.Skipped.{Skipped}
 use Rattle.report.specs.declared.early.Early.{Early}
@@ -31,10 +31,11 @@ pub record AreSame (same : Bool) (count : ℕ) (first second : Expression) : Typ
   pub one_form : IsTrue same ↔ HaveOneForm count first second
   pub one_value : IsTrue same → (values : List ℤ) → eval first values ≡ eval second values
 
--- Both functions are one `return`, of expressions with one form, so no input makes them return differently.
-pub record HaveOneValue (f g : Function) : Type 0 where
+-- Both functions are one `return`, of expressions with one form, so no input makes them return differently, whatever the
+-- condition on the inputs.
+pub record HaveOneValue (f g : Function) (condition : Expression) : Type 0 where
   pub forms : HaveEqualForms f g
-  pub never_differ : NeverDiffer (program_of f) (program_of g)
+  pub never_differ : NeverDiffer (program_of f) (program_of g) condition
 
 -- No form says that the functions are equivalent, and no sample tells them apart.
 pub record IsUnknown (subject : Comparison) (samples : List (Option Skipped)) : Type 0 where
@@ -43,6 +44,6 @@ pub record IsUnknown (subject : Comparison) (samples : List (Option Skipped)) : 
 
 -- What comparing two functions tells.
 abbrev pub Compares : Comparison → Early → Type 0
-Compares subject Equivalent = HaveOneValue subject.first subject.second
+Compares subject Equivalent = HaveOneValue subject.first subject.second (condition_of subject)
 Compares subject (Different index input first second) = IsDifference subject index input first second
 Compares subject (Unknown samples) = IsUnknown subject samples

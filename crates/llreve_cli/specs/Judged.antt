@@ -1,22 +1,32 @@
 -- What the parts of the judgement tell.
 use Rattle.std.specs.Prelude.{◌≡◌, ◌≢◌, ℕ, List, Option}
+use Rattle.c_ast.specs.declared.expr.Expr.{Expr}
 use Rattle.c_ast.specs.Function.{Function}
+use Rattle.c_ast.specs.Comparison.{Comparison, comparison}
+use Rattle.command_line.specs.declared.words.Command.{Command}
 use Rattle.command_line.specs.Refused.{AreNoCommandLine}
 use Rattle.report.specs.declared.early.Early.{Early}
 use Rattle.report.specs.declared.fault.Fault.{Fault}
-use Rattle.report.specs.declared.fault.Fault.TheVariants.{Usage, Different}
+use Rattle.report.specs.declared.fault.Fault.TheVariants as fault
 use Rattle.llreve_cli.specs.declared.outcome.Outcome.TheVariants.{Verdict}
-use Rattle.llreve_cli.specs.Leads.{Leads, arities}
+use Rattle.llreve_cli.specs.Leads.{Leads, arities, IsGivenCondition, RefusesGiven}
 
 -- The fault says that the words are no command line.
 abbrev pub RefusesWords : List (List ℕ) → Fault → Type 0
-RefusesWords words Usage = AreNoCommandLine words
+RefusesWords words fault.Usage = AreNoCommandLine words
 RefusesWords words _ = ⊥
 
--- The fault says that the functions have different numbers of parameters.
-abbrev pub RefusesArity : Function → Function → Fault → Type 0
-RefusesArity f g (Different arity) = (arity ≡ arities f g) × (f.params ≢ g.params)
-RefusesArity f g _ = ⊥
+-- The subject of both functions under a command: they have as many parameters, and the condition is the one that is given.
+pub record IsSubject (f g : Function) (command : Command) (subject : Comparison) : Type 0 where
+  pub arity : f.params ≡ g.params
+  pub condition : Option Expr
+  pub given : IsGivenCondition f command.condition condition
+  pub same : subject ≡ comparison f g command.settings condition
+
+-- The fault says why there is no subject: other numbers of parameters, or else what is wrong with the condition's text.
+abbrev pub RefusesSubject : Function → Function → Option (List ℕ) → Fault → Type 0
+RefusesSubject f g text (fault.Arity arity) = (arity ≡ arities f g) × (f.params ≢ g.params)
+RefusesSubject f g text why = (f.params ≡ g.params) × RefusesGiven f text why
 
 -- The verdict is what the words and the files lead to.
 abbrev pub LeadsToVerdict : List (List ℕ) → (List ℕ → Option (List ℕ)) → (List ℕ → ℕ) → (List ℕ → ℕ) → Early → Type 0

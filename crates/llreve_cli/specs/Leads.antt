@@ -1,8 +1,9 @@
 -- What the words and the files lead to. `text` tells the texts of the names, and `before` and `after` are the counts of
 -- faults of the names, before and after the call.
-use Rattle.std.specs.Prelude.{◌≡◌, ◌≢◌, ℕ, ◌≤◌, List, length, Option}
+use Rattle.std.specs.Prelude.{◌≡◌, ◌≢◌, ℕ, ◌≤◌, List, length, codes, Option, Some, None}
 use Rattle.re_base.specs.Causes.{Rose}
 use Rattle.re_base.specs.Told.{IsWhole, IsLong, longest}
+use Rattle.c_ast.specs.declared.expr.Expr.{Expr}
 use Rattle.c_ast.specs.Function.{Function}
 use Rattle.c_ast.specs.Comparison.{Comparison, comparison}
 use Rattle.c_ast.specs.declared.subject.Arity.{Arity}
@@ -11,11 +12,13 @@ use Rattle.command_line.specs.CommandLine.{IsCommand}
 use Rattle.command_line.specs.Refused.{AreNoCommandLine}
 use Rattle.report.specs.declared.early.Early.{Early}
 use Rattle.report.specs.declared.fault.Fault.{Fault}
-use Rattle.report.specs.declared.fault.Fault.TheVariants.{Usage, Read, TooLong, Token, Reader, Check, Different}
+use Rattle.report.specs.declared.fault.Fault.TheVariants as fault
 use Rattle.llreve_cli.specs.declared.outcome.Outcome.{Outcome}
 use Rattle.llreve_cli.specs.declared.outcome.Outcome.TheVariants.{Verdict, Refused}
-use Rattle.llreve_cli.specs.declared.function.TextFault.TheVariants as refusal
-use Rattle.llreve_cli.specs.Reads.{Reads, IsRefusal}
+use Rattle.c_source.specs.declared.fault.TextFault.{TextFault}
+use Rattle.c_source.specs.declared.fault.TextFault.TheVariants as refusal
+use Rattle.c_source.specs.Reads.{Reads, IsRefusal}
+use Rattle.c_source.specs.ReadsCondition.{ReadsCondition, IsConditionRefusal}
 use Rattle.llreve_cli.specs.Compare.{Compares}
 
 -- These bytes were read: they are the told text, where one is told, and not too long.
@@ -40,44 +43,75 @@ pub record AreFunctions (words : List (List ℕ)) (text : List ℕ → Option (L
   pub first_parsed : Reads files.first_text first
   pub second_parsed : Reads files.second_text second
 
--- Both texts are functions of as many parameters.
+-- The condition is the one that the text is read as, or none where no text is given.
+abbrev pub IsGivenCondition : Function → Option (List ℕ) → Option Expr → Type 0
+IsGivenCondition func None None = Unit {0}
+IsGivenCondition func (Some text) (Some condition) = ReadsCondition func text condition
+IsGivenCondition func None (Some condition) = ⊥
+IsGivenCondition func (Some text) None = ⊥
+
+-- Both texts are functions of as many parameters, and the text of the option `--pre`, where it stands, is a condition on
+-- these.
 pub record AreComparable (words : List (List ℕ)) (text : List ℕ → Option (List ℕ)) : Type 0 where
   pub functions : AreFunctions words text
   pub arity : functions.first.params ≡ functions.second.params
+  pub condition : Option Expr
+  pub given : IsGivenCondition functions.first functions.files.command.condition condition
 
--- the functions with the settings of the words
-abbrev pub subject_of : {words : List (List ℕ)} {text : List ℕ → Option (List ℕ)} → AreComparable words text → Comparison
-subject_of comparable = comparison comparable.functions.first comparable.functions.second comparable.functions.files.command.settings
+-- The functions, with the settings of the words and the condition that they spell.
+abbrev pub subject_of : {words : List (List ℕ)} {text : List ℕ → Option (List ℕ)} → AreComparable words text
+    → Comparison
+subject_of comparable =
+    comparison comparable.functions.first comparable.functions.second comparable.functions.files.command.settings comparable.condition
 
--- the numbers of parameters of two functions
+-- The numbers of parameters of two functions.
 abbrev pub arities : Function → Function → Arity
 arities f g = record { first = f.params; second = g.params }
 
 -- The fault says why the file with this name was not read.
 abbrev pub RefusesRead : (List ℕ → Option (List ℕ)) → (List ℕ → ℕ) → (List ℕ → ℕ) → List ℕ → Fault → Type 0
-RefusesRead text before after name (Read named) = (named ≡ name) × Rose (before name) (after name)
-RefusesRead text before after name (TooLong named) = (named ≡ name) × IsLong (text name)
+RefusesRead text before after name (fault.Read named) = (named ≡ name) × Rose (before name) (after name)
+RefusesRead text before after name (fault.TooLong named) = (named ≡ name) × IsLong (text name)
 RefusesRead text before after name _ = ⊥
+
+-- The fault says, under this name, why a text is refused.
+abbrev pub RefusesBy : List ℕ → (TextFault → Type 0) → Fault → Type 0
+RefusesBy name IsRefused (fault.Token named inner) = (named ≡ name) × IsRefused (refusal.Token inner)
+RefusesBy name IsRefused (fault.Reader named inner) = (named ≡ name) × IsRefused (refusal.Reader inner)
+RefusesBy name IsRefused (fault.Check named inner) = (named ≡ name) × IsRefused (refusal.Check inner)
+RefusesBy name IsRefused _ = ⊥
 
 -- The fault says why the text of the file with this name is no function.
 abbrev pub RefusesText : List ℕ → List ℕ → Fault → Type 0
-RefusesText name text (Token named fault) = (named ≡ name) × IsRefusal text (refusal.Token fault)
-RefusesText name text (Reader named fault) = (named ≡ name) × IsRefusal text (refusal.Reader fault)
-RefusesText name text (Check named fault) = (named ≡ name) × IsRefusal text (refusal.Check fault)
-RefusesText name text _ = ⊥
+RefusesText name text = RefusesBy name (IsRefusal text)
+
+-- The fault says, under the option's name, why its text is no condition on the function's inputs.
+abbrev pub RefusesCondition : Function → List ℕ → Fault → Type 0
+RefusesCondition func text = RefusesBy (codes "--pre") (IsConditionRefusal func text)
+
+-- The same of the option, where it stands.
+abbrev pub RefusesGiven : Function → Option (List ℕ) → Fault → Type 0
+RefusesGiven func None why = ⊥
+RefusesGiven func (Some text) why = RefusesCondition func text why
 
 -- One case an outcome, in the order in which they are judged: each case says that none before it holds.
-pub data Leads (words : List (List ℕ)) (text : List ℕ → Option (List ℕ)) (before after : List ℕ → ℕ) : Outcome → Type 0 where
-  no_command : AreNoCommandLine words → Leads words text before after (Refused Usage)
-  first_unread : (command : Command) (fault : Fault) → IsCommand words command → RefusesRead text before after command.first fault
-      → Leads words text before after (Refused fault)
-  second_unread : (command : Command) (bytes : List ℕ) (fault : Fault) → IsCommand words command → IsRead (text command.first) bytes
-      → RefusesRead text before after command.second fault → Leads words text before after (Refused fault)
-  first_refused : (files : AreRead words text) (fault : Fault) → RefusesText files.command.first files.first_text fault
-      → Leads words text before after (Refused fault)
-  second_refused : (files : AreRead words text) (first : Function) (fault : Fault) → Reads files.first_text first
-      → RefusesText files.command.second files.second_text fault → Leads words text before after (Refused fault)
+pub data Leads (words : List (List ℕ)) (text : List ℕ → Option (List ℕ)) (before after : List ℕ → ℕ) : Outcome
+    → Type 0 where
+  no_command : AreNoCommandLine words → Leads words text before after (Refused fault.Usage)
+  first_unread : (command : Command) (why : Fault) → IsCommand words command
+      → RefusesRead text before after command.first why
+      → Leads words text before after (Refused why)
+  second_unread : (command : Command) (bytes : List ℕ) (why : Fault) → IsCommand words command
+      → IsRead (text command.first) bytes
+      → RefusesRead text before after command.second why → Leads words text before after (Refused why)
+  first_refused : (files : AreRead words text) (why : Fault) → RefusesText files.command.first files.first_text why
+      → Leads words text before after (Refused why)
+  second_refused : (files : AreRead words text) (first : Function) (why : Fault) → Reads files.first_text first
+      → RefusesText files.command.second files.second_text why → Leads words text before after (Refused why)
   other_arity : (functions : AreFunctions words text) → functions.first.params ≢ functions.second.params
-      → Leads words text before after (Refused (Different (arities functions.first functions.second)))
+      → Leads words text before after (Refused (fault.Arity (arities functions.first functions.second)))
+  condition_refused : (functions : AreFunctions words text) (why : Fault) → functions.first.params
+      ≡ functions.second.params
+      → RefusesGiven functions.first functions.files.command.condition why → Leads words text before after (Refused why)
   compared : (comparable : AreComparable words text) (early : Early) → Compares (subject_of comparable) early
       → Leads words text before after (Verdict early)

@@ -2,8 +2,6 @@ pub mod Form
 pub mod NoForm
 pub mod Samples
 pub mod Compare
-pub mod TextFaults
-pub mod Reads
 pub mod Leads
 pub mod Judged
 pub mod Stops

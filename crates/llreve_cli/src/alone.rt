@@ -21,7 +21,8 @@ use std::alloc::{AllocError, Global};
 
 // What the words and the files lead to.
 fn settle<F: Files>(alloc: Global, words: &[String], files: &mut F) -> Result<Outcome, AllocError>
-    ensures { IfOk result (Leads (map string_bytes words.now) (F.text files.old) (F.faults files.old) (F.faults files.new)) }
+    ensures { IfOk result (Leads (map string_bytes words.now) (F.text files.old)
+        (F.faults files.old) (F.faults files.new)) }
 {
     match judge(alloc, words, files) {
         Ok(early) => Ok(Outcome::Verdict(early)),
@@ -30,9 +31,10 @@ fn settle<F: Files>(alloc: Global, words: &[String], files: &mut F) -> Result<Ou
     }
 }
 
-/// Compares the functions of the two files that `words` name, writes what is known of them, and answers the status:
-/// 0 equivalent, 1 different, 2 unknown, 3 refused words or input, 4 a file could not be read, 5 a write failed, 6 want
-/// of memory. `words` leave out the program's name.
+/// Compares the functions of the two files that `words` name on the inputs that meet the condition of
+/// `--pre`, all where none is given; writes what is known of them, and answers the status:
+/// 0 equivalent, 1 different, 2 unknown, 3 refused words or input, 4 a file could not be read, 5 a
+/// write failed, 6 want of memory. `words` leave out the program's name.
 pub fn llreve_alone<F: Files, O: Sink, E: Sink>(
     alloc: Global,
     words: &[String],
@@ -47,8 +49,8 @@ pub fn llreve_alone<F: Files, O: Sink, E: Sink>(
         × Tells outcome (O.written out.old) (O.written out.new) (E.written err.old) (E.written err.new)
         (O.faults out.old) (O.faults out.new) (E.faults err.old) (E.faults err.new) result }
 
-    // Where both texts are told, what the words and the texts lead to is what is told, unless a file could not be read,
-    // a write failed or memory ran out.
+    // Where both texts are told, what the words and the texts lead to is what is told, unless a file
+    // could not be read, a write failed or memory ran out.
     ensures exact { AreTold (map string_bytes words.now) (F.text files.old)
         → (outcome : Outcome)
         → Leads (map string_bytes words.now) (F.text files.old)
@@ -58,17 +60,20 @@ pub fn llreve_alone<F: Files, O: Sink, E: Sink>(
         × Appends (O.written out.old) (O.written out.new) (out_text outcome)
         × Appends (E.written err.old) (E.written err.new) (err_text outcome) }
 
-    // Status 0 means that no input makes the two functions return differently.
+    // Status 0 means that no input that meets the condition makes the two functions return
+    // differently.
     ensures equivalent { result ≡ 0 → AreEquivalent (map string_bytes words.now) (F.text files.old)
         × Appends (O.written out.old) (O.written out.new) (early_text early.Equivalent) }
 
-    // Status 1 tells the first sample on whose input both return, and differently.
+    // Status 1 tells the first sample whose input meets the condition and on which both return, and
+    // differently.
     ensures different { result ≡ 1
         → (d : AreDifferent (map string_bytes words.now) (F.text files.old))
         × Appends (O.written out.old) (O.written out.new)
         (early_text (early.Different d.index d.input d.first d.second)) }
 
-    // It comes wherever some sample tells them apart, unless a file could not be read, a write failed or memory ran out.
+    // It comes wherever some sample tells them apart, unless a file could not be read, a write failed
+    // or memory ran out.
     ensures apart { AreTold (map string_bytes words.now) (F.text files.old)
         → SampleDiffers (map string_bytes words.now) (F.text files.old)
         → result ≢ 4 → result ≢ 5 → result ≢ 6 → result ≡ 1 }

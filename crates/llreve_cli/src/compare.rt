@@ -1,6 +1,7 @@
 //! Two functions are compared by the linear forms of what they return, and else by runs on samples.
 ghost use Rattle.std.specs.Prelude.{◌≡◌, ◌↔◌, IfOk, IsTrue};
-ghost use Rattle.c_ast.specs.Value.{VariablesBelow};
+ghost use Rattle.c_ast.specs.Value.{CanEvaluate};
+ghost use Rattle.c_ast.specs.Tree.{Expression};
 ghost use Rattle.c_ast.specs.View.{expression_of};
 ghost use Rattle.c_ast.specs.Function.{program_of};
 ghost use Rattle.c_ast.specs.Returns.{NeverDiffer};
@@ -19,8 +20,8 @@ fn have_equal_forms(
     first: &Expr,
     second: &Expr,
 ) -> Result<bool, AllocError>
-    requires first { VariablesBelow count (expression_of first.now) }
-    requires second { VariablesBelow count (expression_of second.now) }
+    requires first { CanEvaluate count (expression_of first.now) }
+    requires second { CanEvaluate count (expression_of second.now) }
     ensures { IfOk result (λ same. AreSame same count (expression_of first.now) (expression_of second.now)) }
 {
     let first_form = match form_of(alloc, count, first) {
@@ -36,11 +37,13 @@ fn have_equal_forms(
     Ok(first_form.same(&second_form))
 }
 
-// Whether both functions, which have as many parameters, are one `return`, and return equal linear forms.
+// Whether both functions, which have as many parameters, are one `return`, and return equal linear
+// forms.
 fn are_equivalent(alloc: Global, first: &Func, second: &Func) -> Result<bool, AllocError>
     requires { first.now.params ≡ second.now.params }
     ensures forms { IfOk result (λ same. IsTrue same ↔ HaveEqualForms first.now second.now) }
-    ensures never_differ { IfOk result (λ same. IsTrue same → NeverDiffer (program_of first.now) (program_of second.now)) }
+    ensures never_differ { IfOk result (λ same. IsTrue same → (condition : Expression)
+        → NeverDiffer (program_of first.now) (program_of second.now) condition) }
 {
     let (Some(left), Some(right)) = (first.returned(), second.returned()) else {
         return Ok(false);
@@ -48,7 +51,8 @@ fn are_equivalent(alloc: Global, first: &Func, second: &Func) -> Result<bool, Al
     have_equal_forms(alloc, first.params() as usize, left, right)
 }
 
-/// What comparing the two functions tells. Where their forms are equal no sample can tell them apart, so none is run.
+/// What comparing the two functions tells. Where their forms are equal no sample can tell them apart,
+/// so none is run.
 pub fn compare(alloc: Global, subject: &Subject) -> Result<Early, AllocError>
     ensures { IfOk result (Compares subject.now) }
 {

@@ -1,13 +1,14 @@
 //! The linear form of an expression, where it has one: sums, and products with a constant.
-ghost use Rattle.std.specs.Prelude.{◌≡◌, ℤ, ◌*ℤ◌, List, length, IfOk};
-ghost use Rattle.c_ast.specs.Value.{eval, VariablesBelow};
+ghost use Rattle.std.specs.Prelude.{◌≡◌, ℤ, List, length, IfOk};
+ghost use Rattle.c_ast.specs.Value.{eval, CanEvaluate};
 ghost use Rattle.c_ast.specs.View.{expression_of};
-ghost use Rattle.lin_terms.specs.Form.{value_at, sum_of, multiple_of};
-ghost use Rattle.lin_terms.specs.Narrow.{narrow};
-ghost use Rattle.llreve_cli.specs.Form.{form_of, joined, product, signed, Gives, HasValue, HasSignedValue};
+ghost use Rattle.lin_terms.specs.Form.{value_at};
+ghost use Rattle.llreve_cli.specs.Form.{form_of, joined, signed, Gives, HasValue, HasSignedValue};
 
 use c_ast::{BinOp, Expr, UnOp};
-use lin_terms::{Form, FormFault, add, constant_form, scale, variable_form};
+use lin_terms::{
+    Form, FormFault, ProductFault, add, constant_form, difference, product, scale, variable_form,
+};
 use std::alloc::{AllocError, Global};
 
 /// Why an expression has no form at hand.
@@ -46,43 +47,32 @@ impl From<FormFault> for NoForm {
 
 fn sum(alloc: Global, x: &Form, y: &Form) -> Result<Form, NoForm>
     requires { length x.now.coefs ≡ length y.now.coefs }
-    ensures gives { Gives result (narrow (sum_of x.now y.now)) }
+    ensures gives { Gives result (joined BinOp.Add x.now y.now) }
     ensures columns { IfOk result (λ form. length form.coefs ≡ length x.now.coefs) }
     ensures value { IfOk result (HasValue BinOp.Add x.now y.now) }
 {
     Ok(add(alloc, x, y)?)
 }
 
-fn multiple(alloc: Global, x: &Form, k: i64) -> Result<Form, NoForm>
-    ensures gives { Gives result (narrow (multiple_of k x.now)) }
-    ensures columns { IfOk result (λ form. length form.coefs ≡ length x.now.coefs) }
-    ensures value { IfOk result (λ form. (values : List ℤ) → value_at form values ≡ k *ℤ value_at x.now values) }
-{
-    Ok(scale(alloc, x, k)?)
-}
-
-fn difference(alloc: Global, x: &Form, y: &Form) -> Result<Form, NoForm>
+fn less(alloc: Global, x: &Form, y: &Form) -> Result<Form, NoForm>
     requires { length x.now.coefs ≡ length y.now.coefs }
     ensures gives { Gives result (joined BinOp.Sub x.now y.now) }
     ensures columns { IfOk result (λ form. length form.coefs ≡ length x.now.coefs) }
     ensures value { IfOk result (HasValue BinOp.Sub x.now y.now) }
 {
-    let negative = multiple(alloc, y, -1)?;
-    sum(alloc, x, &negative)
+    Ok(difference(alloc, x, y)?)
 }
 
-fn product(alloc: Global, x: &Form, y: &Form) -> Result<Form, NoForm>
+fn times(alloc: Global, x: &Form, y: &Form) -> Result<Form, NoForm>
     requires { length x.now.coefs ≡ length y.now.coefs }
-    ensures gives { Gives result (product x.now y.now) }
+    ensures gives { Gives result (joined BinOp.Mul x.now y.now) }
     ensures columns { IfOk result (λ form. length form.coefs ≡ length x.now.coefs) }
     ensures value { IfOk result (HasValue BinOp.Mul x.now y.now) }
 {
-    if x.is_constant() {
-        multiple(alloc, y, x.constant)
-    } else if y.is_constant() {
-        multiple(alloc, x, y.constant)
-    } else {
-        Err(NoForm::Absent)
+    match product(alloc, x, y) {
+        Ok(form) => Ok(form),
+        Err(ProductFault::NonLinear | ProductFault::WideForm) => Err(NoForm::Absent),
+        Err(ProductFault::Memory) => Err(NoForm::Memory),
     }
 }
 
@@ -94,10 +84,18 @@ fn joined(alloc: Global, op: BinOp, x: &Form, y: &Form) -> Result<Form, NoForm>
 {
     match op {
         BinOp::Add => sum(alloc, x, y),
-        BinOp::Sub => difference(alloc, x, y),
-        BinOp::Mul => product(alloc, x, y),
+        BinOp::Sub => less(alloc, x, y),
+        BinOp::Mul => times(alloc, x, y),
         _ => Err(NoForm::Absent),
     }
+}
+
+fn negative(alloc: Global, x: &Form) -> Result<Form, NoForm>
+    ensures gives { Gives result (signed UnOp.Minus x.now) }
+    ensures columns { IfOk result (λ form. length form.coefs ≡ length x.now.coefs) }
+    ensures value { IfOk result (HasSignedValue UnOp.Minus x.now) }
+{
+    Ok(scale(alloc, x, -1)?)
 }
 
 fn signed(alloc: Global, op: UnOp, x: Form) -> Result<Form, NoForm>
@@ -107,17 +105,18 @@ fn signed(alloc: Global, op: UnOp, x: Form) -> Result<Form, NoForm>
 {
     match op {
         UnOp::Plus => Ok(x),
-        UnOp::Minus => multiple(alloc, &x, -1),
+        UnOp::Minus => negative(alloc, &x),
         UnOp::Not => Err(NoForm::Absent),
     }
 }
 
 /// The form over `count` variables that has the expression's value at each point.
 pub fn form_of(alloc: Global, count: usize, expr: &Expr) -> Result<Form, NoForm>
-    requires { VariablesBelow count (expression_of expr.now) }
+    requires { CanEvaluate count (expression_of expr.now) }
     ensures gives { Gives result (form_of count (expression_of expr.now)) }
     ensures columns { IfOk result (λ form. length form.coefs ≡ count) }
-    ensures value { IfOk result (λ form. (values : List ℤ) → value_at form values ≡ eval (expression_of expr.now) values) }
+    ensures value { IfOk result (λ form. (values : List ℤ)
+        → value_at form values ≡ eval (expression_of expr.now) values) }
 {
     match expr {
         Expr::Num(constant) => Ok(constant_form(alloc, count, *constant)?),

@@ -1,20 +1,22 @@
 //! From the words and the files to the outcome.
-ghost use Rattle.std.specs.Prelude.{◌≡◌, ℕ, ◌≤◌, List, length, map, string_bytes, IfOk, IfErr, MatchResult};
-ghost use Rattle.c_ast.specs.Comparison.{comparison};
+ghost use Rattle.std.specs.Prelude.{◌≡◌, ◌≢◌, ℕ, ◌≤◌, List, length, map, codes, string_bytes, Some, IfOk, IfErr, MatchResult};
+ghost use Rattle.c_ast.specs.declared.expr.Expr.{Expr};
+ghost use Rattle.c_ast.specs.Comparison.{IsCondition, comparison};
 ghost use Rattle.command_line.specs.CommandLine.{IsCommand};
-ghost use Rattle.llreve_cli.specs.Reads.{Reads};
-ghost use Rattle.llreve_cli.specs.Leads.{IsRead, RefusesRead, RefusesText};
-ghost use Rattle.llreve_cli.specs.Judged.{RefusesWords, RefusesArity, LeadsToVerdict};
+ghost use Rattle.c_source.specs.Reads.{Reads};
+ghost use Rattle.c_source.specs.ReadsCondition.{ReadsCondition};
+ghost use Rattle.llreve_cli.specs.Leads.{IsRead, IsGivenCondition, RefusesRead, RefusesText, RefusesCondition, RefusesGiven, arities};
+ghost use Rattle.llreve_cli.specs.Judged.{IsSubject, RefusesWords, RefusesSubject, LeadsToVerdict};
 ghost use Rattle.llreve_cli.specs.Stops.{StopsBy, LeadsToFault};
 
 use crate::compare::compare;
-use crate::function::{TextFault, read_function};
 use crate::stop::Stop;
-use c_ast::{Func, Name, Settings, Subject};
-use command_line::{Command, NoCommand, read_command};
+use c_ast::{Arity, Expr, Func, Name, Settings, Subject};
+use c_source::{TextFault, read_condition, read_function};
+use command_line::{Command, ConditionText, NoCommand, read_command};
 use re_base::{FileFault, Files};
 use report::{Early, Fault};
-use std::alloc::Global;
+use std::alloc::{AllocError, Global};
 
 // What the words say.
 fn read_words(alloc: Global, words: &[String]) -> Result<Command, Stop>
@@ -33,7 +35,8 @@ fn read_file<F: Files>(alloc: Global, files: &mut F, name: &Name) -> Result<Vec<
     ensures told { (n : List ℕ) → F.text files.new n ≡ F.text files.old n }
     ensures later { (n : List ℕ) → F.faults files.old n ≤ F.faults files.new n }
     ensures read { IfOk result (λ bytes. IsRead (F.text files.old name.now) bytes.items) }
-    ensures stopped { IfErr result (StopsBy (RefusesRead (F.text files.old) (F.faults files.old) (F.faults files.new) name.now)) }
+    ensures stopped { IfErr result (StopsBy
+        (RefusesRead (F.text files.old) (F.faults files.old) (F.faults files.new) name.now)) }
 {
     match files.read(alloc, name.text()) {
         Ok(bytes) => Ok(bytes),
@@ -58,30 +61,106 @@ fn read_func(alloc: Global, name: &Name, text: &[u8]) -> Result<Func, Stop>
     }
 }
 
-// The subject of both functions.
-fn subject_of(first: Func, second: Func, settings: Settings) -> Result<Subject, Stop>
-    ensures subject { IfOk result (λ subject. subject ≡ comparison first second settings) }
-    ensures arity { IfOk result (λ subject. first.params ≡ second.params) }
-    ensures stopped { IfErr result (StopsBy (RefusesArity first second)) }
+// The name that stands for a file's in the faults of a condition.
+fn option_name(alloc: Global) -> Result<Name, AllocError>
+    ensures { IfOk result (λ name. name ≡ codes "--pre") }
 {
-    match Subject::new(first, second, settings) {
-        Ok(subject) => Ok(subject),
-        Err(arity) => Err(Stop::Refused(Fault::Different(arity))),
+    Ok(Name::new(String::from_str(alloc, "--pre")?))
+}
+
+// The condition of the option's text, over the parameters of the function.
+fn read_pre(alloc: Global, text: &ConditionText, func: &Func) -> Result<Expr, Stop>
+    ensures read { IfOk result (ReadsCondition func.now text.now) }
+    ensures formed { IfOk result (IsCondition func.now) }
+    ensures stopped { IfErr result (StopsBy (RefusesCondition func.now text.now)) }
+{
+    let name = option_name(alloc)?;
+    match read_condition(alloc, text.text().as_bytes(), func) {
+        Ok(condition) => Ok(condition),
+        Err(TextFault::Token(fault)) => Err(Stop::Refused(Fault::Token(name, fault))),
+        Err(TextFault::Reader(fault)) => Err(Stop::Refused(Fault::Reader(name, fault))),
+        Err(TextFault::Check(fault)) => Err(Stop::Refused(Fault::Check(name, fault))),
+        Err(TextFault::Memory) => Err(Stop::Memory),
     }
 }
 
-/// What the words and the files lead to. The words are judged first, then each file is read, then the texts are
-/// parsed in turn, and last the functions are compared.
+// The condition that is given, if one is.
+fn read_given(
+    alloc: Global,
+    text: &Option<ConditionText>,
+    func: &Func,
+) -> Result<Option<Expr>, Stop>
+    ensures read { IfOk result (IsGivenCondition func.now text.now) }
+    ensures formed { IfOk result
+        (λ condition. (given : Expr) → condition ≡ Some given → IsCondition func.now given) }
+    ensures stopped { IfErr result (StopsBy (RefusesGiven func.now text.now)) }
+{
+    match text {
+        None => Ok(None),
+        Some(text) => match read_pre(alloc, text, func) {
+            Ok(condition) => Ok(Some(condition)),
+            Err(stop) => Err(stop),
+        },
+    }
+}
+
+// The subject of these parts, unless the numbers of parameters differ.
+fn subject_with(
+    first: Func,
+    second: Func,
+    settings: Settings,
+    condition: Option<Expr>,
+) -> Result<Subject, Arity>
+    requires { (given : Expr) → condition ≡ Some given → IsCondition first given }
+    ensures { MatchResult result
+        (λ subject. (first.params ≡ second.params)
+        × (subject ≡ comparison first second settings condition))
+        (λ arity. (first.params ≢ second.params) × (arity ≡ arities first second)) }
+{
+    match condition {
+        None => Subject::new(first, second, settings),
+        Some(condition) => Subject::with_condition(first, second, settings, condition),
+    }
+}
+
+// The subject of both functions under the command: their numbers of parameters are compared before
+// the condition is read.
+fn subject_of(alloc: Global, first: Func, second: Func, command: &Command) -> Result<Subject, Stop>
+    ensures subject { IfOk result (IsSubject first second command.now) }
+    ensures stopped { IfErr result (StopsBy (RefusesSubject first second command.now.condition)) }
+{
+    let arity = Arity {
+        first: first.params(),
+        second: second.params(),
+    };
+    if arity.first != arity.second {
+        return Err(Stop::Refused(Fault::Arity(arity)));
+    }
+    let condition = match read_given(alloc, &command.condition, &first) {
+        Ok(condition) => condition,
+        Err(stop) => return Err(stop),
+    };
+    match subject_with(first, second, command.settings, condition) {
+        Ok(subject) => Ok(subject),
+        Err(arity) => Err(Stop::Refused(Fault::Arity(arity))),
+    }
+}
+
+/// What the words and the files lead to. The words are judged first, then each file is read, then the
+/// texts are parsed in turn, then the numbers of parameters and the condition are judged, and last the
+/// functions are compared.
 pub fn judge<F: Files>(alloc: Global, words: &[String], files: &mut F) -> Result<Early, Stop>
     ensures { MatchResult result
-        (LeadsToVerdict (map string_bytes words.now) (F.text files.old) (F.faults files.old) (F.faults files.new))
-        (StopsBy (LeadsToFault (map string_bytes words.now) (F.text files.old) (F.faults files.old) (F.faults files.new))) }
+        (LeadsToVerdict (map string_bytes words.now) (F.text files.old)
+        (F.faults files.old) (F.faults files.new))
+        (StopsBy (LeadsToFault (map string_bytes words.now) (F.text files.old)
+        (F.faults files.old) (F.faults files.new))) }
 {
     let command = read_words(alloc, words)?;
     let first_text = read_file(alloc, files, &command.first)?;
     let second_text = read_file(alloc, files, &command.second)?;
     let first = read_func(alloc, &command.first, &first_text)?;
     let second = read_func(alloc, &command.second, &second_text)?;
-    let subject = subject_of(first, second, command.settings)?;
+    let subject = subject_of(alloc, first, second, &command)?;
     Ok(compare(alloc, &subject)?)
 }

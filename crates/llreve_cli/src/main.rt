@@ -1,14 +1,14 @@
 //! llreve: a regression verifier for integer C functions.
 //!
-//! `main` makes the real files and sinks; `llreve_alone` in `alone.rt` does all the rest, and its contract is what
-//! the program promises. `specs/Leads.antt` says when each outcome comes, `specs/Written.antt` what is written then, and
-//! `specs/Answers.antt` what each status says of the two files.
+//! `main` makes the real files and sinks; `llreve_alone` in `alone.rt` does all the rest, and its
+//! contract is what the program promises. `specs/Leads.antt` says when each outcome comes,
+//! `specs/Written.antt` what is written then, and `specs/Answers.antt` what each status says of the
+//! two files.
 #![tactic(auto)]
 
 mod alone;
 mod compare;
 mod form;
-mod function;
 mod judge;
 mod outcome;
 mod samples;
@@ -25,8 +25,8 @@ use std::env;
 use std::io::ErrorKind;
 use std::process::ExitCode;
 
-// The words behind the program's name. One that is no UTF-8 makes the arguments fail as a whole: like no words, they are
-// no command line.
+// The words behind the program's name. One that is no UTF-8 makes the arguments fail as a whole: like
+// no words, they are no command line.
 fn words(rt: &HostRuntime) -> Result<Vec<String>, AllocError> {
     let mut words = Vec::new(rt.alloc());
     match env::args(rt) {

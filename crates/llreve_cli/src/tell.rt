@@ -7,7 +7,8 @@ use re_base::{Sink, put_all};
 use report::{early_text, fault_text};
 use std::alloc::Global;
 
-/// Writes the outcome, and answers the status. The memory of the whole text is taken before its first byte goes out.
+/// Writes the outcome, and answers the status. The memory of the whole text is taken before its first
+/// byte goes out.
 pub fn tell<O: Sink, E: Sink>(alloc: Global, outcome: &Outcome, out: &mut O, err: &mut E) -> u8
     requires { IsKeptOutcome outcome.now }
     ensures { Tells outcome.now (O.written out.old) (O.written out.new) (E.written err.old) (E.written err.new)

@@ -1,4 +1,5 @@
-//! The whole command over files and sinks in memory. A row's right side is the status, and what both sinks hold.
+//! The whole command over files and sinks in memory. A row's right side is the status, and what both
+//! sinks hold.
 mod refused;
 mod runs;
 mod sampled;
@@ -43,8 +44,8 @@ int f(int n) {
 }
 ";
 
-/// What a run of the command meets: the texts of `A.c` and `B.c`, the numbers of the calls that fail, and how many bytes
-/// a call of a sink takes at most.
+/// What a run of the command meets: the texts of `A.c` and `B.c`, the numbers of the calls that fail,
+/// and how many bytes a call of a sink takes at most.
 #[derive(Clone, Copy)]
 struct Run<'a> {
     first: &'a str,
@@ -95,6 +96,19 @@ impl<'a> Run<'a> {
         let (out, err) = (str::from_utf8(out.bytes()), str::from_utf8(err.bytes()));
         format!(in alloc; "{status}|{}|{}", out.unwrap_or("?"), err.unwrap_or("?"))
     }
+}
+
+/// What is told of two texts with these options.
+fn told_with(
+    alloc: Global,
+    first: &str,
+    second: &str,
+    options: &[&str],
+) -> Result<String, AllocError> {
+    let mut words = Vec::new(alloc);
+    words.extend_from_slice(&NAMES)?;
+    words.extend_from_slice(options)?;
+    Run::on(first, second).told(alloc, &words)
 }
 
 /// Two texts with equal results at all samples, which no form decides.
@@ -278,11 +292,98 @@ fn samples_are_bounded(rt: HostRuntime) -> Result<(), Fail> {
         ),
     ];
     for (first, second, options, want) in rows {
-        let mut words = Vec::new(rt.alloc());
-        words.extend_from_slice(&NAMES)?;
-        words.extend_from_slice(options)?;
-        let got = Run::on(first, second).told(rt.alloc(), &words)?;
+        let got = told_with(rt.alloc(), first, second, options)?;
         assert_eq!(rt; got.as_str(), want, "{first} and {second}");
+    }
+    Ok(())
+}
+
+#[test]
+fn conditions_bound_the_inputs(rt: HostRuntime) -> Result<(), Fail> {
+    let given = "int f(int a){return a;}";
+    let size = "int f(int a){if (a < 0) return -a; return a;}";
+    let rows: [(&str, &str, &str, &str); 15] = [
+        (
+            given,
+            size,
+            "--seed=0",
+            "1|different\nsample 3\ninput -1\nA returns -1\nB returns 1\n|",
+        ),
+        (
+            given,
+            size,
+            "--pre=a >= 0",
+            "2|unknown\nequal 0-2 4\nunmet pre 3\n|",
+        ),
+        (
+            given,
+            size,
+            "--pre=a / 2 == 0 && a",
+            "1|different\nsample 3\ninput -1\nA returns -1\nB returns 1\n|",
+        ),
+        (given, DOUBLE, "--pre=0", "2|unknown\nunmet pre 0-4\n|"),
+        (
+            given,
+            size,
+            "--pre=9223372036854775807 * 9223372036854775807",
+            "2|unknown\nwide pre 0-4\n|",
+        ),
+        // Equal forms never differ, whatever the condition.
+        (DOUBLE, TWICE, "--pre=0", "0|equivalent\n|"),
+        // The condition is over the first function's parameters, and is read after the arity.
+        (
+            DOUBLE,
+            "int g(int b){return b+b;}",
+            "--pre=a",
+            "0|equivalent\n|",
+        ),
+        (
+            DOUBLE,
+            "int f(int a,int b){return a;}",
+            "--pre=@",
+            "3||llreve: arity 1 and 2\n",
+        ),
+        (DOUBLE, TWICE, "--pre=@", "3||llreve: --pre:1:1: no token\n"),
+        (
+            DOUBLE,
+            TWICE,
+            "--pre=\nb > 0",
+            "3||llreve: --pre:2: undeclared b\n",
+        ),
+        (
+            DOUBLE,
+            TWICE,
+            "--pre=a / 0",
+            "3||llreve: --pre:1: divisor not a nonzero constant\n",
+        ),
+        (
+            DOUBLE,
+            TWICE,
+            "--pre=__mark(1) & (a > 0)",
+            "3||llreve: --pre: not in the grammar\n",
+        ),
+        (
+            DOUBLE,
+            TWICE,
+            "--pre=a = 1",
+            "3||llreve: --pre: not in the grammar\n",
+        ),
+        (
+            DOUBLE,
+            TWICE,
+            "--pre= ",
+            "3||llreve: --pre: not in the grammar\n",
+        ),
+        (
+            DOUBLE,
+            TWICE,
+            "--pre=",
+            "3||llreve: usage: llreve [options] FIRST SECOND\n",
+        ),
+    ];
+    for (first, second, condition, want) in rows {
+        let got = told_with(rt.alloc(), first, second, &["--samples=5", condition])?;
+        assert_eq!(rt; got.as_str(), want, "{condition}");
     }
     Ok(())
 }

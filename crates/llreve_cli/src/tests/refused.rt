@@ -1,5 +1,5 @@
 //! Texts that are refused, and texts that are just within the limits.
-use super::{NAMES, Run, TWICE};
+use super::{DOUBLE, NAMES, Run, TWICE, told_with};
 use std::alloc::{AllocError, Global};
 use std::test::Fail;
 
@@ -22,8 +22,16 @@ fn texts_are_refused(rt: HostRuntime) -> Result<(), Fail> {
             "3||llreve: A.c:1:21: no token\n",
         ),
         (
-            "int f(int a){return a / 2;}",
-            "3||llreve: A.c:1:23: unsupported /\n",
+            "int f(int a){return a ^ 2;}",
+            "3||llreve: A.c:1:23: unsupported ^\n",
+        ),
+        (
+            "int f(int a){return a / 0;}",
+            "3||llreve: A.c:1: divisor not a nonzero constant\n",
+        ),
+        (
+            "int f(int a){a %= 2;\nreturn 1 / (a);}",
+            "3||llreve: A.c:2: divisor not a nonzero constant\n",
         ),
         (
             "int f(int a){return 9223372036854775808;}",
@@ -237,6 +245,36 @@ fn long_files_are_refused(rt: HostRuntime) -> Result<(), Fail> {
     ] {
         let got = Run::on(first, second).told(alloc, &NAMES)?;
         assert_eq!(rt; got.as_str(), want);
+    }
+    Ok(())
+}
+
+/// What is told of the two functions that are equivalent, where the condition is this many times the
+/// same between others.
+fn conditioned(
+    alloc: Global,
+    opening: &str,
+    times: usize,
+    closing: &str,
+) -> Result<String, AllocError> {
+    let mut text = repeated(alloc, "--pre=", opening, times, "1")?;
+    let closings = repeated(alloc, "", closing, times, "")?;
+    text.push_str(closings.as_str())?;
+    told_with(alloc, DOUBLE, TWICE, &[text.as_str()])
+}
+
+#[test]
+fn conditions_are_as_long_and_as_deep_as_may_be(rt: HostRuntime) -> Result<(), Fail> {
+    let alloc = rt.alloc();
+    let usage = "3||llreve: usage: llreve [options] FIRST SECOND\n";
+    for (opening, times, closing, want) in [
+        (" ", 4095, "", "0|equivalent\n|"),
+        (" ", 4096, "", usage),
+        ("(", 200, ")", "0|equivalent\n|"),
+        ("(", 201, ")", "3||llreve: --pre: nested too deep\n"),
+    ] {
+        let got = conditioned(alloc, opening, times, closing)?;
+        assert_eq!(rt; got.as_str(), want, "{times} times {opening}");
     }
     Ok(())
 }

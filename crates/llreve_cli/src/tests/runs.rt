@@ -3,8 +3,9 @@ ghost use Rattle.std.specs.Prelude.{◌≡◌, length};
 
 use super::TWICE;
 use super::sampled::subject;
-use crate::function::read_function;
-use c_ast::{Func, Outcome, Place, Subject, Trace, interpret};
+use c_ast::{Func, Outcome, Place, Subject, Trace};
+use c_run::interpret;
+use c_source::read_function;
 use std::alloc::{AllocError, Global};
 use std::test::Fail;
 

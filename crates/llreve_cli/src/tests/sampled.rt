@@ -1,8 +1,8 @@
 //! Runs of texts on sample inputs, through the graphs of their functions.
 ghost use Rattle.std.specs.Prelude.{◌≡◌, ◌<◌, IfOk};
 
-use crate::function::read_function;
 use c_ast::{Pair, Settings, Subject};
+use c_source::read_function;
 use std::alloc::{AllocError, Global};
 use std::test::Fail;
 use trace_pair::{PairRefused, pair};

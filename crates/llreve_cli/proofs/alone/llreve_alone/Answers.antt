@@ -8,12 +8,14 @@ use Rattle.llreve_cli.proofs.alone.llreve_alone.Goals as goal
 
 pub returns-in-Ok-clause-equivalent : goal.returns-in-Ok-clause-equivalent
 returns-in-Ok-clause-equivalent g c =
-    equivalent-told (map string_bytes c.args.words.now) (g.F.Files.text c.args.files.now) (g.F.Files.faults c.args.files.now) (g.F.Files.faults c.settle.new.files)
+    equivalent-told (map string_bytes c.args.words.now) (g.F.Files.text c.args.files.now) (g.F.Files.faults c.args.files.now)
+    (g.F.Files.faults c.settle.new.files)
     _ _ _ _ _ _ _ _ c.tell.result c.in-Ok.outcome c.in-Ok.ensures c.tell.ensures
 
 pub returns-in-Ok-clause-different : goal.returns-in-Ok-clause-different
 returns-in-Ok-clause-different g c =
-    different-told (map string_bytes c.args.words.now) (g.F.Files.text c.args.files.now) (g.F.Files.faults c.args.files.now) (g.F.Files.faults c.settle.new.files)
+    different-told (map string_bytes c.args.words.now) (g.F.Files.text c.args.files.now) (g.F.Files.faults c.args.files.now)
+    (g.F.Files.faults c.settle.new.files)
     _ _ _ _ _ _ _ _ c.tell.result c.in-Ok.outcome c.in-Ok.ensures c.tell.ensures
 
 pub returns-in-Ok-clause-unknown : goal.returns-in-Ok-clause-unknown
@@ -29,7 +31,8 @@ tell-requires g c =
 pub returns-in-Ok-clause-exact : goal.returns-in-Ok-clause-exact
 returns-in-Ok-clause-exact g c told outcome leads is_read not_four not_five not_six =
     let whole = c.tell.ensures.whole not_five not_six in
-    let same = outcome_once (map string_bytes c.args.words.now) (g.F.Files.text c.args.files.now) (g.F.Files.faults c.args.files.now) (g.F.Files.faults c.settle.new.files)
+    let same = outcome_once (map string_bytes c.args.words.now) (g.F.Files.text c.args.files.now) (g.F.Files.faults c.args.files.now)
+    (g.F.Files.faults c.settle.new.files)
     c.in-Ok.outcome outcome told c.in-Ok.ensures leads (λ four. not_four (whole.0 ∙ four)) is_read in
     subst (λ (o : Outcome). (c.tell.result ≡ status_of o) × Appends (g.O.Sink.written c.args.out.now) (g.O.Sink.written c.tell.new.out) (out_text o)
     × Appends (g.E.Sink.written c.args.err.now) (g.E.Sink.written c.tell.new.err) (err_text o)) same whole
