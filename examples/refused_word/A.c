@@ -1,0 +1,4 @@
+int f(int a) {
+  float b;
+  return a;
+}

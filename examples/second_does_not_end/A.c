@@ -1,0 +1,3 @@
+int f(int x) {
+  return 0 * x * x;
+}
