@@ -1,5 +1,6 @@
 -- The public laws (src/law.rt), each with its proof: what the proofs of other crates may cite.
 use Rattle.c_ast.specs.Division.{LawOfDivision}
+use Rattle.c_ast.specs.Place.{LawOfPlaces}
 use Rattle.c_ast.specs.Fronts.{Fronts, OneTree, OneExpression}
 use Rattle.c_ast.specs.Environments.{MapOfSpread, MapOfValues, SpreadHasLength, StepKeepsLength, ValuesAreListed, ListedAreBelow, FirstVariablesAreBelow, ParametersAreBelow}
 use Rattle.c_ast.specs.Environments.{SetStaysBelow, OverCanEvaluate, SetCanEvaluate}
@@ -11,6 +12,7 @@ use Rattle.c_ast.specs.Laws.{WorkIsDetermined, NextPlaceIsDetermined, NextPlaceE
 use Rattle.c_ast.specs.Laws.{FittingValuesAreAsMany, EntryIsNotMet, ExitIsLast}
 use Rattle.c_ast.specs.Laws.{IsJudgedOnce, JudgedIsTrace, CutOffPassesMore, TraceIsJudged}
 use Rattle.c_ast.proofs.Division as division
+use Rattle.c_ast.proofs.SamePlace as same_place
 use Rattle.c_ast.proofs.Fronts as front
 use Rattle.c_ast.proofs.Distinct as distinct
 use Rattle.c_ast.proofs.Lengths as lengths
@@ -31,6 +33,11 @@ use Rattle.c_ast.proofs.Judging as judging
 
 pub law_of_division : LawOfDivision
 law_of_division = division.law_of_division
+
+-- ---- places
+
+pub law_of_places : LawOfPlaces
+law_of_places = same_place.law_of_places
 
 -- ---- trees
 

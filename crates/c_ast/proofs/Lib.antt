@@ -10,6 +10,7 @@ pub mod NextPlace
 pub mod MarksAhead
 pub mod Lengths
 pub mod Scoped
+pub mod SamePlace
 pub mod Places
 pub mod InScope
 pub mod Environments

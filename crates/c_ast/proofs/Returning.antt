@@ -11,7 +11,6 @@ use Rattle.c_ast.specs.View.{expression_of, statements_of}
 use Rattle.c_ast.specs.Value.{eval, CanEvaluate}
 use Rattle.c_ast.specs.Step.{Scope, Run, is_in, first_variables, spread, spread_from}
 use Rattle.c_ast.specs.Formed.{IsOver, AreFormed}
-use Rattle.c_ast.specs.FitsRun.{parts_fit_run, only_if, fitting_value}
 use Rattle.c_ast.specs.Returns.{Returns, result_within}
 use Rattle.c_ast.specs.Function.{Function, IsFunction, ReturnsOne, program_of}
 use Rattle.c_ast.proofs.Fronts.{front-Return}
@@ -109,23 +108,3 @@ Returns-Return f e is one inputs value len =
 pub IfSome-from_cases : {X : Type 0} (o : Option X) (P : Type 0) (Q R : X → Type 0) → MatchOption o P Q → ((x : X) → Q x → R x) → IfSome o R
 IfSome-from_cases None P Q R cases follows = tt
 IfSome-from_cases (Some x) P Q R cases follows = follows x cases
-
--- ---- the value that is handed out
-
-same_return : (f : Function) (e e' : Expr) → ReturnsOne f e → ReturnsOne f e' → e' ≡ e
-same_return f e e' one one' = let bodies : stmt.Return e' ∷ [] ≡ stmt.Return e ∷ [] = sym one' ∙ one in cc
-
-told : (f : Function) (e : Expr) (inputs : List ℤ) (narrow : Bool) (result : Option ℤ) → ReturnsOne f e → parts_fit_run (expression_of e) inputs ≡ narrow
-    → result ≡ only_if narrow (eval (expression_of e) inputs) → Returns (program_of f) inputs (eval (expression_of e) inputs)
-    → MatchOption result ((e' : Expr) → ReturnsOne f e' → parts_fit_run (expression_of e') inputs ≡ false) (Returns (program_of f) inputs)
-told f e inputs true result one is given returns = rw given returns
-told f e inputs false result one is given returns =
-    rw given (λ e' one'. subst (λ (x : Expr). parts_fit_run (expression_of x) inputs ≡ false) (sym (same_return f e e' one one')) is)
-
--- The narrow value of the one expression is what the function returns, and there is none where a part of it is wide.
-pub Returns-fitting_value : (f : Function) (e : Expr) (inputs : List ℤ) (result : Option ℤ) → ReturnsOne f e
-    → ((values : List ℤ) (value : ℤ) → length values ≡ f.params → (Returns (program_of f) values value ↔ (value ≡ eval (expression_of e) values)))
-    → length inputs ≡ f.params → result ≡ fitting_value (expression_of e) inputs
-    → MatchOption result ((e' : Expr) → ReturnsOne f e' → parts_fit_run (expression_of e') inputs ≡ false) (Returns (program_of f) inputs)
-Returns-fitting_value f e inputs result one value len given =
-    told f e inputs (parts_fit_run (expression_of e) inputs) result one refl given ((value inputs (eval (expression_of e) inputs) len).1 refl)

@@ -6,22 +6,27 @@
 //! integers of any size.
 #![tactic(auto)]
 
-mod copy;
+// Functions as trees, of raw parts and checked.
 mod expr;
 mod func;
-mod law;
 mod name;
-mod place;
 mod raw;
-mod same;
-mod scope;
-mod settings;
 mod stmt;
 mod subject;
-#[cfg(test)]
-mod tests;
+
+// What they mean: values, places, what is in scope, traces.
+mod place;
+mod scope;
 mod trace;
 mod value;
+
+// Equal copies, settings of a question, and laws.
+mod copy;
+mod law;
+mod same;
+mod settings;
+#[cfg(test)]
+mod tests;
 
 pub use copy::copy_expr;
 pub use expr::{BinOp, Expr, UnOp};

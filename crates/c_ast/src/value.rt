@@ -105,7 +105,7 @@ fn binary_value(op: BinOp, left: i128, right: i128) -> Option<i128>
 pub fn value_of(expr: &Expr, environment: &[i128]) -> Option<i128>
     requires { CanEvaluate (length environment.now) (expression_of expr.now) }
     ensures value { result ≡ fitting_value (expression_of expr.now) environment.now }
-    ensures narrow { IfSome result (λ value. fits_run value ≡ true) }
+    ensures fits { IfSome result (λ value. fits_run value ≡ true) }
 {
     match expr {
         Expr::Num(constant) => fitting(*constant as i128),

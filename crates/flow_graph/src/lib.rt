@@ -7,12 +7,17 @@
 //! entry it is judged alike: it returns, passes one mark too many, or meets a wide value.
 #![tactic(auto)]
 
-mod builder;
+// A graph and its nodes.
 mod graph;
-mod law;
-mod layout;
 mod op;
+
+// How a function becomes one.
+mod builder;
+mod layout;
 mod stop;
+
+// What graphs promise of segments and values.
+mod law;
 #[cfg(test)]
 mod tests;
 

@@ -6,10 +6,13 @@
 //! marks, and each part of each evaluated expression below 2^100 in size.
 #![tactic(auto)]
 
-mod law;
-mod runs;
+// One step, and why a run is no answer.
 mod skip;
 mod step;
+
+// Whole runs, and what they promise.
+mod law;
+mod runs;
 #[cfg(test)]
 mod tests;
 

@@ -1,30 +1,13 @@
 -- The test of nodes, and what a family has at one.
 use Rattle.std.proofs.Common.{◌≡◌, ℕ, suc, ◌<◌, Bool, true, false, ◌&&◌, cond, List, ◌∷◌, length, drop, get_or, Some, refl, sym, ap, ◌∙◌, subst}
 use Rattle.std.proofs.Math.Seq.{drop-cons}
-use Rattle.std.proofs.lemmas.Bool.{eqb-true, eq-eqb}
 use Rattle.c_ast.specs.declared.place.Place.{Place}
-use Rattle.c_ast.specs.declared.place.Place.TheVariants as place
 use Rattle.c_ast.specs.Place.{is_same_place}
+use Rattle.c_ast.proofs.Laws.{law_of_places}
 use Rattle.horn_clauses.specs.declared.atom.Atom.{Atom}
 use Rattle.horn_clauses.specs.declared.node.Node.{Node}
 use Rattle.horn_clauses.specs.Node.{node, is_same_node, LawOfNodes}
 use Rattle.horn_clauses.specs.Family.{atoms_among}
-
-same_place : (l m : Place) → is_same_place l m ≡ true → l ≡ m
-same_place place.Entry place.Entry is = refl
-same_place place.Entry (place.Mark k) is = cc
-same_place place.Entry place.Exit is = cc
-same_place (place.Mark j) place.Entry is = cc
-same_place (place.Mark j) (place.Mark k) is = ap place.Mark (eqb-true j k is)
-same_place (place.Mark j) place.Exit is = cc
-same_place place.Exit place.Entry is = cc
-same_place place.Exit (place.Mark k) is = cc
-same_place place.Exit place.Exit is = refl
-
-place_is_itself : (l : Place) → is_same_place l l ≡ true
-place_is_itself place.Entry = refl
-place_is_itself (place.Mark k) = eq-eqb k k refl
-place_is_itself place.Exit = refl
 
 both : (a b : Bool) → (a && b) ≡ true → (a ≡ true) × (b ≡ true)
 both true b is = (refl, is)
@@ -38,12 +21,12 @@ node_of_places : (m n : Node) → m.0 ≡ n.0 → m.1 ≡ n.1 → m ≡ n
 node_of_places m n first second = ap (λ (z : Place). node z m.1) first ∙ ap (λ (z : Place). node n.0 z) second
 
 node_is_itself : (n : Node) → is_same_node n n ≡ true
-node_is_itself n = both_true (is_same_place n.0 n.0) (is_same_place n.1 n.1) (place_is_itself n.0) (place_is_itself n.1)
+node_is_itself n = both_true (is_same_place n.0 n.0) (is_same_place n.1 n.1) ((law_of_places n.0 n.0).1 refl) ((law_of_places n.1 n.1).1 refl)
 
 pub law_of_nodes : LawOfNodes
 law_of_nodes m n = (
   λ is. let parts = both (is_same_place m.0 n.0) (is_same_place m.1 n.1) is in
-      node_of_places m n (same_place m.0 n.0 parts.0) (same_place m.1 n.1 parts.1),
+      node_of_places m n ((law_of_places m.0 n.0).0 parts.0) ((law_of_places m.1 n.1).0 parts.1),
   λ same. subst (λ (z : Node). is_same_node m z ≡ true) same (node_is_itself m),
 )
 

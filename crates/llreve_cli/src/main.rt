@@ -6,13 +6,18 @@
 //! two files.
 #![tactic(auto)]
 
+// From words and files to an outcome.
 mod alone;
-mod compare;
-mod form;
 mod judge;
 mod outcome;
-mod samples;
 mod stop;
+
+// Two functions compared: by their forms, or by samples.
+mod compare;
+mod form;
+mod samples;
+
+// The outcome told.
 mod tell;
 #[cfg(test)]
 mod tests;

@@ -5,11 +5,18 @@
 //! (`specs/Indexes.antt`). Every line ends with a newline.
 #![tactic(auto)]
 
-mod early;
+// Refusals.
 mod fault;
+
+// Outcomes that precede samples.
+mod early;
+
+// Samples.
 mod indexes;
-mod law;
 mod samples;
+
+// What the texts tell apart.
+mod law;
 #[cfg(test)]
 mod tests;
 

@@ -6,10 +6,13 @@
 //! why the others are skipped, over the condition on the inputs and the steps of the source.
 #![tactic(auto)]
 
+// The inputs of a sample, and why it is skipped.
 mod inputs;
+mod skipped;
+
+// Both sides' runs of one, and what they promise.
 mod law;
 mod pairs;
-mod skipped;
 #[cfg(test)]
 mod tests;
 
