@@ -7,3 +7,6 @@ pub use Rattle.lin_terms.proofs.Fitting.{fitting_fits, fitting_is_wanted, variab
 pub use Rattle.lin_terms.proofs.Composing.{value_at-composed}
 pub use Rattle.lin_terms.proofs.Rows.{whole_is_fraction}
 pub use Rattle.lin_terms.proofs.TightLemmas.{no_wider_below}
+pub use Rattle.lin_terms.proofs.TightLemmas.{tight_keeps, tight_columns}
+pub use Rattle.lin_terms.proofs.Rows.{sign_row-holds}
+pub use Rattle.lin_terms.proofs.FormLemmas.{value_at-sum_of, value_at-multiple_of, value_at-constant, value_at-constant_form, value_at-variable_form}

@@ -6,7 +6,10 @@ use Rattle.lin_terms.specs.declared.form.Form.{Form}
 use Rattle.lin_terms.specs.declared.row.Row.{Row}
 use Rattle.lin_terms.specs.Vectors.{dot, plus, scaled, only_at}
 use Rattle.lin_terms.specs.Divisor.{gcd_with, gcd_of, DividesAll, floor_div}
-use Rattle.lin_terms.specs.Form.{value_at, variable_form, composed}
+use Rattle.lin_terms.specs.declared.sign.Sign.{Sign}
+use Rattle.lin_terms.specs.Form.{value_at, sum_of, multiple_of, is_constant, constant_form, variable_form, composed}
+use Rattle.lin_terms.specs.Sign.{HasSign, sign_row}
+use Rattle.lin_terms.specs.Tight.{tight_of, HaveSameSolutions}
 use Rattle.lin_terms.specs.Makes.{IsFittingForm, fitting}
 use Rattle.lin_terms.specs.Row.{Holds, Meets, EntriesAreBelow, IsNoWider}
 
@@ -129,6 +132,28 @@ FittingFormsAreWanted = (wanted form : Form) → fitting wanted ≡ Some form �
 abbrev pub VariablesFit : Type 0
 VariablesFit = (count x : ℕ) → x < count → IsFittingForm (variable_form count x)
 
+-- the value of a sum
+abbrev pub ValueOfSum : Type 0
+ValueOfSum = (x y : Form) (values : List ℤ) → value_at (sum_of x y) values ≡ value_at x values +ℤ value_at y values
+
+-- the value of a multiple
+abbrev pub ValueOfMultiple : Type 0
+ValueOfMultiple = (k : ℤ) (form : Form) (values : List ℤ)
+    → value_at (multiple_of k form) values ≡ k *ℤ value_at form values
+
+-- the value of a form without variables
+abbrev pub ValueOfConstant : Type 0
+ValueOfConstant = (form : Form) (values : List ℤ) → is_constant form ≡ true → value_at form values ≡ form.constant
+
+-- the value of the form that is made of a constant
+abbrev pub ValueOfConstantForm : Type 0
+ValueOfConstantForm = (count : ℕ) (value : ℤ) (values : List ℤ) → value_at (constant_form count value) values ≡ value
+
+-- the value of the form that is a variable
+abbrev pub ValueOfVariableForm : Type 0
+ValueOfVariableForm = (count x : ℕ) (values : List ℤ) → x < count
+    → value_at (variable_form count x) values ≡ slice_index_or values x (pos 0)
+
 -- the value of a form over forms, whatever the sizes are
 abbrev pub ValueOfComposed : Type 0
 ValueOfComposed = (columns : ℕ) (form : Form) (at : List Form) (values : List ℤ)
@@ -145,3 +170,16 @@ abbrev pub NoWiderIsBelow : Type 0
 NoWiderIsBelow = (first second : Row) (bound : ℕ) → 0 < bound → IsNoWider first second
     → length first.coefs ≡ length second.coefs
     → EntriesAreBelow bound second → EntriesAreBelow bound first
+
+-- the row that says that a form has a sign holds exactly where its value has the sign
+abbrev pub SignRowsHold : Type 0
+SignRowsHold = (sign : Sign) (form : Form) (values : List ℤ)
+    → Holds values (sign_row sign form) ↔ HasSign sign (value_at form values)
+
+-- the same whole numbers meet a row and the tight one
+abbrev pub TightRowsAreSame : Type 0
+TightRowsAreSame = (row : Row) → HaveSameSolutions (tight_of row) row
+
+-- the tight row has as many columns
+abbrev pub TightRowsKeepColumns : Type 0
+TightRowsKeepColumns = (row : Row) → length (tight_of row).coefs ≡ length row.coefs

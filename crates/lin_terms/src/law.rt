@@ -1,5 +1,7 @@
 //! Laws of the definitions alone. Each is the contract of a call that does nothing.
 ghost use Rattle.lin_terms.specs.Laws.{DotOfSum, DotOfMultiple, DotOfJoined, DotOfZeros, DotOfReplicated, DotOfOne, DotOfRest, EntryOfSum, EntryOfMultiple, EntryOfReplicated, EntryOfZeros, LengthOfSum, LengthOfMultiple, DivisorDivides, DivisorIsBelow, DivisorOfJoined, SameDivisors, QuotientIsExact, DotOfQuotients, SumIsNotNegative, ProductIsNotNegative, FactorIsZero, FittingFormsFit, FittingFormsAreWanted, VariablesFit, ValueOfComposed, WholeNumbersAreFractions, NoWiderIsBelow};
+ghost use Rattle.lin_terms.specs.Laws.{ValueOfSum, ValueOfMultiple, ValueOfConstant, ValueOfConstantForm, ValueOfVariableForm};
+ghost use Rattle.lin_terms.specs.Laws.{SignRowsHold, TightRowsAreSame, TightRowsKeepColumns};
 
 /// The sum of products, of lists that are made of others.
 pub fn law_of_dots()
@@ -39,6 +41,15 @@ pub fn law_of_signs()
     ensures factors { FactorIsZero }
 {}
 
+/// The values of forms that are made of others, of a constant and of a variable.
+pub fn law_of_values()
+    ensures sum { ValueOfSum }
+    ensures multiple { ValueOfMultiple }
+    ensures constant { ValueOfConstant }
+    ensures constant_form { ValueOfConstantForm }
+    ensures variable_form { ValueOfVariableForm }
+{}
+
 /// Forms that are made where they fit, and forms over forms.
 pub fn law_of_forms()
     ensures fit { FittingFormsFit }
@@ -51,4 +62,11 @@ pub fn law_of_forms()
 pub fn law_of_rows()
     ensures whole_numbers { WholeNumbersAreFractions }
     ensures bounds { NoWiderIsBelow }
+{}
+
+/// Rows that say a form's sign, and tight rows.
+pub fn law_of_tight_rows()
+    ensures signs { SignRowsHold }
+    ensures solutions { TightRowsAreSame }
+    ensures columns { TightRowsKeepColumns }
 {}

@@ -28,7 +28,8 @@ pub use form::{
     scale, variable_form,
 };
 pub use law::{
-    law_of_divisors, law_of_dots, law_of_forms, law_of_rows, law_of_signs, law_of_vectors,
+    law_of_divisors, law_of_dots, law_of_forms, law_of_rows, law_of_signs, law_of_tight_rows,
+    law_of_values, law_of_vectors,
 };
 pub use over::{coef_over, compose, constant_over};
 pub use point::Point;
