@@ -43,7 +43,7 @@ left_out numbers d row not_negative no_variable allowed =
 
 -- ---- parallel rows
 
-same_coefs : (xs ys : List ℤ) → pointwise int_eq xs ys ≡ true → xs ≡ ys
+pub same_coefs : (xs ys : List ℤ) → pointwise int_eq xs ys ≡ true → xs ≡ ys
 same_coefs xs ys e = (pointwise_decides Decides-int_eq xs ys).0 e
 
 less_step : (s a b d : ℤ) → (s +ℤ (a *ℤ d)) +ℤ ((b -ℤ a) *ℤ d) ≡ s +ℤ (b *ℤ d)
