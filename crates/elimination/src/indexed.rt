@@ -1,8 +1,8 @@
 //! Rows in order, with an index of the coefficients of the inequalities among them.
 //!
-//! The first 32 rows are looked through one by one, which takes less time in a short list than
-//! hashing does. The coefficients of each inequality behind them are a key of a map, with the place
-//! of the first row that has them.
+//! The first 32 rows are looked through one by one, so that a short list copies and hashes nothing.
+//! The coefficients of each inequality behind them are a key of a map, with the place of the first
+//! row that has them.
 ghost use Rattle.std.specs.Prelude.{◌≡◌, [], List, ℤ, length, take, position, IfOk, OnOk, OnErr};
 ghost use Rattle.elimination.specs.Joining.{is_parallel, added};
 ghost use Rattle.elimination.specs.Indexed.{scanned, place_of, noted};

@@ -267,6 +267,21 @@ const COMPOSED: [(
     ),
 ];
 
+/// Whether the form over the forms is as wanted.
+fn is_over(
+    alloc: Global,
+    outer: &Form,
+    forms: &[Form],
+    columns: usize,
+    want: &Result<Entries, ProductFault>,
+) -> bool {
+    outer.coefs.len() <= forms.len()
+        && outer.coefs.len() <= 1024
+        && are_fitting_forms(forms)
+        && have_at_most(columns, forms)
+        && is_made(&as_product(compose(alloc, columns, outer, forms)), want)
+}
+
 fn composed_is(
     alloc: Global,
     outer: Entries,
@@ -275,14 +290,7 @@ fn composed_is(
     want: &Result<Entries, ProductFault>,
 ) -> Result<bool, AllocError> {
     let (outer, at) = (form(alloc, outer)?, forms(alloc, given)?);
-    let forms = at.as_slice();
-    Ok(
-        outer.coefs.len() <= forms.len()
-            && outer.coefs.len() <= 1024
-            && are_fitting_forms(forms)
-            && have_at_most(columns, forms)
-            && is_made(&as_product(compose(alloc, columns, &outer, forms)), want),
-    )
+    Ok(is_over(alloc, &outer, at.as_slice(), columns, want))
 }
 
 #[test]
@@ -402,11 +410,22 @@ const CONSTANTS: [(usize, i64, Result<Entries, ProductFault>); 3] = [
     (2, WIDE, Err(WideForm)),
 ];
 
+fn constant_is(
+    alloc: Global,
+    count: usize,
+    value: i64,
+    want: &Result<Entries, ProductFault>,
+) -> bool {
+    is_made(&as_product(constant_form(alloc, count, value)), want)
+}
+
 #[test]
 fn constants(rt: HostRuntime) -> Result<(), Fail> {
     for (count, value, want) in &CONSTANTS {
-        let made = as_product(constant_form(rt.alloc(), *count, *value));
-        assert!(rt; is_made(&made, want), "{count} {value}");
+        assert!(rt;
+            constant_is(rt.alloc(), *count, *value, want),
+            "{count} {value}"
+        );
     }
     Ok(())
 }
