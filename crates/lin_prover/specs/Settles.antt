@@ -15,14 +15,14 @@ use Rattle.simplex.specs.declared.guess.Guess.TheVariants.{Multipliers, Nothing}
 use Rattle.simplex.specs.declared.guess.Guess.TheVariants as guess
 
 -- The row can be judged at the point, and holds there.
-pub record IsMetAt (point : Point) (row : Row) : Type 0 where
+pub record IsMet (point : Point) (row : Row) : Type 0 where
   pub judged : CanJudge point row
   pub meets : Meets point.numbers point.denominator row
 
 -- The point is one of the rows: its denominator is positive, and each row can be judged there and holds.
 pub record IsPointOf (rows : List Row) (point : Point) : Type 0 where
   pub positive : pos 0 <ℤ point.denominator
-  pub met : All (IsMetAt point) rows
+  pub met : All (IsMet point) rows
 
 -- The check may be asked of the multipliers, and says that they refute the rows.
 pub record AreConfirmed (rows : List Row) (multipliers : List ℤ) : Type 0 where

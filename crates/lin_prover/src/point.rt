@@ -1,15 +1,14 @@
 //! The test of a point against rows.
-ghost use Rattle.std.specs.Prelude.{◌≡◌, ◌↔◌, IsTrue};
-ghost use Rattle.lin_terms.specs.Point.{CanJudge};
-ghost use Rattle.lin_terms.specs.Row.{Meets, HasPoint};
+ghost use Rattle.std.specs.Prelude.{◌↔◌, IsTrue};
+ghost use Rattle.lin_terms.specs.Row.{HasPoint};
 ghost use Rattle.farkas_check.specs.Refutes.{IsRefutable};
-ghost use Rattle.lin_prover.specs.Settles.{IsMetAt, IsPointOf};
+ghost use Rattle.lin_prover.specs.Settles.{IsMet, IsPointOf};
 
 use lin_terms::{Point, Row};
 
 /// Whether the row can be judged at the point, and holds there.
-fn is_met_at(row: &Row, point: &Point) -> bool
-    ensures { IsTrue result ↔ IsMetAt point.now row.now }
+fn meets(point: &Point, row: &Row) -> bool
+    ensures { IsTrue result ↔ IsMet point.now row.now }
 {
     match point.meets(row) {
         Some(holds) => holds,
@@ -21,7 +20,7 @@ fn is_met_at(row: &Row, point: &Point) -> bool
 fn meets_all(rows: &[Row], point: &Point) -> bool
     ensures { IsTrue result ↔ IsPointOf rows.now point.now }
 {
-    point.denominator > 0 && rows.iter().all(|row| is_met_at(row, point))
+    point.denominator > 0 && rows.iter().all(|row| meets(point, row))
 }
 
 /// Whether the point is one of the rows: its denominator is at least 1, and each row holds there. A
