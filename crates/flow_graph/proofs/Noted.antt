@@ -16,10 +16,10 @@ use Rattle.c_ast.specs.Tree as tree
 use Rattle.c_ast.specs.Tree.{Statements, Program}
 use Rattle.c_ast.specs.View.{statements_of}
 use Rattle.c_ast.specs.Function.{Function, IsFunction, program_of}
-use Rattle.c_ast.specs.Step.{Scope, is_in, LoopParts, Run, Test, Cond, Tail, Work, scope_of, first_variables}
+use Rattle.c_ast.specs.Step.{Scope, is_in, Run, Work, scope_of, first_variables}
 use Rattle.c_ast.specs.Segment.{StandsIn, Follows}
 use Rattle.c_ast.specs.Formed.{AreFormed, IsProgram}
-use Rattle.c_ast.specs.Scope.{IsPlace, with_variable, variables_from, variables_in, AreInScope}
+use Rattle.c_ast.specs.Scope.{with_variable, variables_from, variables_in, AreInScope}
 use Rattle.c_ast.proofs.Laws.{work_is_determined}
 use Rattle.flow_graph.specs.Scopes.{Scopes, with_declared, with_own, noted, HasScope, AreScopes}
 

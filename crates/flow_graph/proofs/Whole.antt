@@ -1,5 +1,4 @@
 -- The graph of a function: what is built does what the function does, and is well formed.
-use Rattle.std.proofs.lemmas.Option.{slice_get_within}
 use Rattle.std.proofs.lemmas.List.{length-map}
 use Rattle.std.specs.List.Sorted.{IsStrictlyIncreasing}
 use Rattle.std.proofs.Common.{◌≡◌, ◌↔◌, ℕ, zero, suc, ◌<◌, ◌^◌, Bool, false, inl, inr, List, [], ◌∷◌, length, All, Option, Some, None, IsSome, ℤ, pos, refl, sym, ap, ◌∙◌, subst, arith}
@@ -30,12 +29,12 @@ use Rattle.c_ast.proofs.Laws.{marks_are_ahead, marks_are_ahead_at_start, spread_
 use Rattle.flow_graph.specs.declared.op.Op.{Op}
 use Rattle.flow_graph.specs.declared.stop.Stop.{Stop}
 use Rattle.flow_graph.specs.Operation.{Operation, Mark, Return, operation_of}
-use Rattle.flow_graph.specs.FlowGraph.{FlowGraph, operation_at, stop_of, next_of, scope_of_stop, node_after, variables_at, width_at, GoesOnAt, HasPlace}
+use Rattle.flow_graph.specs.FlowGraph.{FlowGraph, stop_of, next_of, scope_of_stop, node_after, variables_at, width_at, GoesOnAt, HasPlace}
 use Rattle.flow_graph.specs.Run.{values_of, seen_from}
 use Rattle.flow_graph.specs.WellFormed.{Fits, IsFlowGraph}
 use Rattle.flow_graph.specs.Built.{IsGraphOf}
 use Rattle.flow_graph.specs.Layout.{Slots, slots_of, Layout, layout, added, lay}
-use Rattle.flow_graph.specs.Stops.{Marks, MarksOf, AreStops}
+use Rattle.flow_graph.specs.Stops.{MarksOf, AreStops}
 use Rattle.flow_graph.proofs.Growing.{lay_grows, slots_of-length}
 use Rattle.flow_graph.proofs.Laid.{Table, TestLaid, Laid, LoopLaid, IsEnd, WorkLaid, Extends, laid_more, grows_extends, table_of, lay_laid}
 use Rattle.flow_graph.proofs.Closing.{opens, closed_table, closed_length}

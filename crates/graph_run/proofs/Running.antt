@@ -38,7 +38,8 @@ resumed-append : (events : List Event) (event : Event) (o : Option Outcome) → 
 resumed-append [] event o = refl
 resumed-append (first ∷ events) event o = ap (with_first first) (resumed-append events event o)
 
-resumed-returned : (events : List Event) (value : ℤ) → resumed events (Some (returned value)) ≡ Some (outcome.Returned (record { events = events; result = value }))
+resumed-returned : (events : List Event) (value : ℤ) → resumed events (Some (returned value))
+    ≡ Some (outcome.Returned (record { events = events; result = value }))
 resumed-returned [] value = refl
 resumed-returned (first ∷ events) value = ap (with_first first) (resumed-returned events value)
 
@@ -89,7 +90,8 @@ record Goes (at : ℕ → Option Operation) (count : ℕ) (op : Operation) (node
   size : length new ≡ length env
   values : AllFitRun new
 
-step_goes : (at : ℕ → Option Operation) (count vars node after : ℕ) (op : Operation) (env new : List ℤ) → Fits at count vars node op → AllFitRun env → evaluates_fitting (operand op) env ≡ true → turn op env ≡ graph.Goes after new → Goes at count op node env after new
+step_goes : (at : ℕ → Option Operation) (count vars node after : ℕ) (op : Operation) (env new : List ℤ) → Fits at count vars node op → AllFitRun env
+    → evaluates_fitting (operand op) env ≡ true → turn op env ≡ graph.Goes after new → Goes at count op node env after new
 step_goes at count vars node after (Set x e n) env new fits values holds is =
     let after_is : n ≡ after = cc in
     let new_is : slice_set env x (eval e env) ≡ new = cc in
@@ -117,7 +119,8 @@ record Passes (count : ℕ) (op : Operation) (env : List ℤ) (mark after : ℕ)
   env_is : env ≡ new
   below : after < count
 
-step_passes : (at : ℕ → Option Operation) (count vars node mark after : ℕ) (op : Operation) (env new : List ℤ) → Fits at count vars node op → turn op env ≡ graph.Passes mark after new → Passes count op env mark after new
+step_passes : (at : ℕ → Option Operation) (count vars node mark after : ℕ) (op : Operation) (env new : List ℤ) → Fits at count vars node op
+    → turn op env ≡ graph.Passes mark after new → Passes count op env mark after new
 step_passes at count vars node mark after (Set x e n) env new fits is = absurd cc
 step_passes at count vars node mark after (Branch e n m) env new fits is = absurd cc
 step_passes at count vars node mark after (Mark k n) env new fits is =
@@ -142,13 +145,15 @@ pub record Runs (g : FlowGraph) (inputs : List ℤ) (limit left : ℕ) (events :
   pub values : AllFitRun env
   pub passed : All (λ event. AllFitRun event.values) events
   pub within : left ≤ limit
-  pub rest : (steps : ℕ) (o : Option Outcome) (whole : Outcome) → seen_from evaluates_fitting (Some outcome.Wide) (at_most limit) returned g steps (limit - left) node env ≡ o
+  pub rest : (steps : ℕ) (o : Option Outcome) (whole : Outcome)
+      → seen_from evaluates_fitting (Some outcome.Wide) (at_most limit) returned g steps (limit - left) node env ≡ o
       → resumed events o ≡ Some whole → IsGraphJudged g inputs limit whole
 
 abbrev pub measure : FlowGraph → ℕ → ℕ → ℕ
 measure g left node = left * suc (length g.ops) + rank_of (operation_at g node) node
 
-pub begins : (g : FlowGraph) (inputs env : List ℤ) (limit node : ℕ) → length inputs ≡ g.params → AllFitRun inputs → env ≡ spread (first_variables (length inputs)) g.vars inputs → node ≡ g.entry → node < length g.ops → Runs g inputs limit limit [] node env
+pub begins : (g : FlowGraph) (inputs env : List ℤ) (limit node : ℕ) → length inputs ≡ g.params → AllFitRun inputs
+    → env ≡ spread (first_variables (length inputs)) g.vars inputs → node ≡ g.entry → node < length g.ops → Runs g inputs limit limit [] node env
 begins g inputs env limit node arity values env_is node_is below =
     let start : env ≡ spread (first_variables g.params) g.vars inputs = env_is ∙ ap (λ (n : ℕ). spread (first_variables n) g.vars inputs) arity in
     record {
@@ -161,14 +166,16 @@ begins g inputs env limit node arity values env_is node_is below =
         steps = steps;
         is =
             let none : limit - limit ≡ 0 = omega arith in
-            ap (λ (n : ℕ). seen_from evaluates_fitting (Some outcome.Wide) (at_most limit) returned g steps 0 n (spread (first_variables g.params) g.vars inputs)) (sym node_is)
+            ap (λ (n : ℕ). seen_from evaluates_fitting (Some outcome.Wide) (at_most limit) returned g steps 0 n
+            (spread (first_variables g.params) g.vars inputs)) (sym node_is)
             ∙ ap (seen_from evaluates_fitting (Some outcome.Wide) (at_most limit) returned g steps 0 node) (sym start)
             ∙ ap (λ (m : ℕ). seen_from evaluates_fitting (Some outcome.Wide) (at_most limit) returned g steps m node env) (sym none) ∙ seen ∙ is;
       };
     }
 
 -- The node has this operation, and the step from it came to `result`.
-module _ {g : FlowGraph} {inputs : List ℤ} {limit left : ℕ} {events : List Event} {node : ℕ} {env : List ℤ} (formed : IsFlowGraph g) (r : Runs g inputs limit left events node env) {code : Op} (found : slice_get g.ops node ≡ Some code) where
+module _ {g : FlowGraph} {inputs : List ℤ} {limit left : ℕ} {events : List Event} {node : ℕ} {env : List ℤ} (formed : IsFlowGraph g)
+    (r : Runs g inputs limit left events node env) {code : Op} (found : slice_get g.ops node ≡ Some code) where
   abbrev op : Operation
   op = operation_of code
 
@@ -189,11 +196,13 @@ module _ {g : FlowGraph} {inputs : List ℤ} {limit left : ℕ} {events : List E
 
   seen_fitting : (n m : ℕ) (t : Turn) → evaluates_fitting (operand op) env ≡ true → turn op env ≡ t → S (suc n) m node env ≡ T n m t
   seen_fitting n m t holds is =
-      ap (λ (o : Option Operation). seen_at evaluates_fitting (Some outcome.Wide) (at_most limit) returned g (S n) m o env) here ∙ ap (λ (b : Bool). cond b (T n m (turn op env)) (Some outcome.Wide)) holds ∙ ap (T n m) is
+      ap (λ (o : Option Operation). seen_at evaluates_fitting (Some outcome.Wide) (at_most limit) returned g (S n) m o env) here
+      ∙ ap (λ (b : Bool). cond b (T n m (turn op env)) (Some outcome.Wide)) holds ∙ ap (T n m) is
 
   seen_wide : (n m : ℕ) → evaluates_fitting (operand op) env ≡ false → S (suc n) m node env ≡ Some outcome.Wide
   seen_wide n m fails =
-      ap (λ (o : Option Operation). seen_at evaluates_fitting (Some outcome.Wide) (at_most limit) returned g (S n) m o env) here ∙ ap (λ (b : Bool). cond b (T n m (turn op env)) (Some outcome.Wide)) fails
+      ap (λ (o : Option Operation). seen_at evaluates_fitting (Some outcome.Wide) (at_most limit) returned g (S n) m o env) here
+      ∙ ap (λ (b : Bool). cond b (T n m (turn op env)) (Some outcome.Wide)) fails
 
   module _ (new : List ℤ) {after : ℕ} {result : Next} (is : result ≡ next.Goes after) (taken : TakesStep op env result new) where
     going_taken : TakesStep op env (next.Goes after) new
@@ -209,7 +218,8 @@ module _ {g : FlowGraph} {inputs : List ℤ} {limit left : ℕ} {events : List E
       values = goes_on.values;
       passed = r.passed;
       within = r.within;
-      rest = λ steps o whole seen whole_is. r.rest (suc steps) o whole (seen_fitting steps (limit - left) (graph.Goes after new) going_taken.0 going_taken.1 ∙ seen) whole_is;
+      rest = λ steps o whole seen whole_is. r.rest (suc steps) o whole
+          (seen_fitting steps (limit - left) (graph.Goes after new) going_taken.0 going_taken.1 ∙ seen) whole_is;
     }
 
     pub goes_nearer : measure g left after < measure g left node
@@ -234,15 +244,19 @@ module _ {g : FlowGraph} {inputs : List ℤ} {limit left : ℕ} {events : List E
         let scope : variables_at g (place.Mark mark) ≡ known.stop.scope = ap scope_of_stop known.found in
         let below = (formed.afters mark known.stop known.found).1 in
         let size : g.vars ≡ length new = sym r.size ∙ ap length passing.env_is in
-        subst (λ (n : ℕ). All (λ (x : ℕ). x < n) (variables_at g (place.Mark mark))) size (subst (λ (z : List ℕ). All (λ (x : ℕ). x < g.vars) z) (sym scope) below)
+        subst (λ (n : ℕ). All (λ (x : ℕ). x < n) (variables_at g (place.Mark mark))) size
+        (subst (λ (z : List ℕ). All (λ (x : ℕ). x < g.vars) z) (sym scope) below)
 
     pub not_ended : left ≡ 0 → IsGraphJudged g inputs limit outcome.CutOff
     not_ended none =
         let over : nat_lt (limit - left) limit ≡ false = grind (arith, nat_tests) in
         r.rest 1 (Some outcome.CutOff) outcome.CutOff
-        (seen_pass 0 (limit - left) ∙ ap (λ (b : Bool). cond b (with_first (record { mark = mark; values = values_of (variables_at g (place.Mark mark)) new }) None) (Some outcome.CutOff)) over) (resumed-CutOff events)
+        (seen_pass 0 (limit - left)
+        ∙ ap (λ (b : Bool). cond b (with_first (record { mark = mark; values = values_of (variables_at g (place.Mark mark)) new }) None)
+        (Some outcome.CutOff)) over) (resumed-CutOff events)
 
-    module _ {left' : ℕ} (left_is : left ≡ suc left') {event : Event} (event_is : event ≡ record { mark = mark; values = values_of (variables_at g (place.Mark mark)) new }) where
+    module _ {left' : ℕ} (left_is : left ≡ suc left') {event : Event}
+        (event_is : event ≡ record { mark = mark; values = values_of (variables_at g (place.Mark mark)) new }) where
       later : limit - left' ≡ suc (limit - left)
       later = omega (arith, r.within)
 
@@ -250,8 +264,10 @@ module _ {g : FlowGraph} {inputs : List ℤ} {limit left : ℕ} {events : List E
       seen_event n =
           let under : nat_lt (limit - left) limit ≡ true = (let le = r.within in grind (arith, nat_tests)) in
           seen_pass n (limit - left)
-          ∙ ap (λ (b : Bool). cond b (with_first (record { mark = mark; values = values_of (variables_at g (place.Mark mark)) new }) (S n (suc (limit - left)) after new)) (Some outcome.CutOff)) under
-          ∙ ap (λ (e : Event). with_first e (S n (suc (limit - left)) after new)) (sym event_is) ∙ ap (λ (m : ℕ). with_first event (S n m after new)) (sym later)
+          ∙ ap (λ (b : Bool). cond b (with_first (record { mark = mark; values = values_of (variables_at g (place.Mark mark)) new })
+          (S n (suc (limit - left)) after new)) (Some outcome.CutOff)) under
+          ∙ ap (λ (e : Event). with_first e (S n (suc (limit - left)) after new)) (sym event_is)
+          ∙ ap (λ (m : ℕ). with_first event (S n m after new)) (sym later)
 
       new_fits : AllFitRun new
       new_fits = subst AllFitRun passing.env_is r.values
@@ -264,15 +280,18 @@ module _ {g : FlowGraph} {inputs : List ℤ} {limit left : ℕ} {events : List E
         below = passing.below;
         size = ap length (sym passing.env_is) ∙ r.size;
         values = new_fits;
-        passed = All-append (λ (e : Event). AllFitRun e.values) events (event ∷ []) r.passed (All-cons (λ (e : Event). AllFitRun e.values) event [] event_fits (λ k d below. absurd (omega arith)));
+        passed = All-append (λ (e : Event). AllFitRun e.values) events (event ∷ []) r.passed
+            (All-cons (λ (e : Event). AllFitRun e.values) event [] event_fits (λ k d below. absurd (omega arith)));
         within = omega (arith, r.within);
-        rest = λ steps o whole seen whole_is. r.rest (suc steps) (with_first event o) whole (seen_event steps ∙ ap (with_first event) seen) (sym (resumed-append events event o) ∙ whole_is);
+        rest = λ steps o whole seen whole_is. r.rest (suc steps) (with_first event o) whole (seen_event steps ∙ ap (with_first event) seen)
+            (sym (resumed-append events event o) ∙ whole_is);
       }
 
       pub passes_nearer : measure g left' after < measure g left node
       passes_nearer =
           let small = rank_small (operation_at g after) after (length g.ops) passing.below in
-          let product : left * suc (length g.ops) ≡ suc (length g.ops) + left' * suc (length g.ops) = ap (λ (n : ℕ). n * suc (length g.ops)) left_is ∙ suc-mul left' (suc (length g.ops)) ∙ omega arith in
+          let product : left * suc (length g.ops) ≡ suc (length g.ops) + left' * suc (length g.ops) = ap (λ (n : ℕ). n * suc (length g.ops)) left_is
+          ∙ suc-mul left' (suc (length g.ops)) ∙ omega arith in
           omega (arith, small, product)
 
   module _ (new : List ℤ) {value : ℤ} {result : Next} (is : result ≡ next.Ends value) (taken : TakesStep op env result new) where
@@ -286,4 +305,5 @@ module _ {g : FlowGraph} {inputs : List ℤ} {limit left : ℕ} {events : List E
     ends_fit = record { events = r.passed; result = result_fits op env value ending_taken.0 ending_taken.1 }
 
   pub meets_wide : (new : List ℤ) {result : Next} → result ≡ next.Wide → TakesStep op env result new → IsGraphJudged g inputs limit outcome.Wide
-  meets_wide new is taken = r.rest 1 (Some outcome.Wide) outcome.Wide (seen_wide 0 (limit - left) (subst (λ (n : Next). TakesStep op env n new) is taken)) (resumed-Wide events)
+  meets_wide new is taken = r.rest 1 (Some outcome.Wide) outcome.Wide (seen_wide 0 (limit - left) (subst (λ (n : Next). TakesStep op env n new) is taken))
+      (resumed-Wide events)

@@ -9,6 +9,7 @@ loop-parameter-preserved c =
     let word = ap (λ (p : ℕ × Lcg). p.0) c.next_word.ensures in
     let generator = ap (λ (p : ℕ × Lcg). p.1) c.next_word.ensures in
     let before = c.loop-parameter.values.items in
-    let more = one_word_more (c.args.arity - c.loop-parameter._parameter) (c.args.arity - (c.loop-parameter._parameter + 1)) c.loop-parameter.generator before (omega arith) in
+    let more = one_word_more (c.args.arity - c.loop-parameter._parameter) (c.args.arity - (c.loop-parameter._parameter + 1)) c.loop-parameter.generator before
+    (omega arith) in
     let fits : FitsSigned w128 c.word_value.result = search (rules, c.word_value.type_inv) in
     rw (c.in_ok-push.ensures.items, generator) (simp to_z-of_z (rw (c.word_value.ensures, word) (sym more ∙ c.loop-parameter.invariant)))

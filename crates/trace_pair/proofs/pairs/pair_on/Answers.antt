@@ -39,7 +39,8 @@ returns-in_err-second-clause-answer c =
       input_is = search rules;
       admitted = c.in_ok-admit.ensures;
     } in
-    let returns : FirstReturns c.args.subject.now (input_at c.args.subject.now c.args.index) = record { trace = c.in_ok-first.first; returns = search (rules, first) } in
+    let returns : FirstReturns c.args.subject.now (input_at c.args.subject.now c.args.index) =
+    record { trace = c.in_ok-first.first; returns = search (rules, first) } in
     let told = second_tells _ _ _ _ _ h returns c.in_err-second.field-0.0 ran in
     search (rules, told.0)
 
@@ -53,6 +54,7 @@ returns-in_err-second-clause-cause c =
       input_is = search rules;
       admitted = c.in_ok-admit.ensures;
     } in
-    let returns : FirstReturns c.args.subject.now (input_at c.args.subject.now c.args.index) = record { trace = c.in_ok-first.first; returns = search (rules, first) } in
+    let returns : FirstReturns c.args.subject.now (input_at c.args.subject.now c.args.index) =
+    record { trace = c.in_ok-first.first; returns = search (rules, first) } in
     let told = second_tells _ _ _ _ _ h returns c.in_err-second.field-0.0 ran in
     search (rules, told.1)
