@@ -1,3 +1,4 @@
 pub mod Points
 pub mod More
 pub mod Laws
+mod Samples

@@ -4,6 +4,7 @@ use elimination::decide;
 use lin_terms::{Point, Row, are_fitting_rows, have_one_length};
 use sqlite_items::Items;
 use std::alloc::{AllocError, Global};
+use std::process::Abort;
 use std::test::Fail;
 
 /// What is answered: multipliers, or that there are none, or a limit.
@@ -48,9 +49,22 @@ const SYSTEMS: [(&[Entries], u32, Want); 5] = [
     (HALF, 0, Ok(None)),
 ];
 
-/// Whether `prove` answers what is wanted.
-fn proves(alloc: Global, rows: &[Row], cap: u32, want: &Want) -> bool {
-    have_one_length(rows) && are_fitting_rows(rows) && is_wanted(&prove(alloc, rows, cap), want)
+/// What `prove` answers, where it may be asked.
+fn proved(rt: &impl Abort, alloc: Global, rows: &[Row], cap: u32) -> Result<Answer, Limit> {
+    assert!(rt; have_one_length(rows) && are_fitting_rows(rows));
+    prove(alloc, rows, cap)
+}
+
+/// What `settle` answers with a guess, where it may be asked.
+fn settled(
+    rt: &impl Abort,
+    alloc: Global,
+    rows: &[Row],
+    cap: u32,
+    guess: Guess,
+) -> Result<Answer, Limit> {
+    assert!(rt; have_one_length(rows) && are_fitting_rows(rows));
+    settle(alloc, rows, cap, guess)
 }
 
 #[test]
@@ -58,9 +72,10 @@ fn rows_are_proved(rt: HostRuntime) -> Result<(), Fail> {
     let alloc = rt.alloc();
     for (given, cap, want) in SYSTEMS {
         let rows = rows_of(alloc, given)?;
+        let got = proved(&rt, alloc, rows.as_slice(), cap);
         assert!(rt;
-            proves(alloc, rows.as_slice(), cap, &want),
-            "{rows:?} with a cap of {cap}"
+            is_wanted(&got, &want),
+            "{rows:?} with a cap of {cap}: {got:?}"
         );
     }
     Ok(())
@@ -138,24 +153,14 @@ const GUESSES: [(&[Entries], Told, Want); 26] = [
     (HALF, Told::Multipliers(&[i128::MIN, i128::MAX]), ASKED),
 ];
 
-/// Whether `settle` answers what is wanted.
-fn settles(alloc: Global, rows: &[Row], cap: u32, guess: Guess, want: &Want) -> bool {
-    have_one_length(rows)
-        && are_fitting_rows(rows)
-        && is_wanted(&settle(alloc, rows, cap, guess), want)
-}
-
 #[test]
 fn guesses_are_tested(rt: HostRuntime) -> Result<(), Fail> {
     let alloc = rt.alloc();
     for (given, told, want) in GUESSES {
         let rows = rows_of(alloc, given)?;
         let guess = guess_of(alloc, &told)?;
-        let rows = rows.as_slice();
-        assert!(rt;
-            settles(alloc, rows, 1, guess, &want),
-            "{rows:?} with {told:?}"
-        );
+        let got = settled(&rt, alloc, rows.as_slice(), 1, guess);
+        assert!(rt; is_wanted(&got, &want), "{rows:?} with {told:?}: {got:?}");
     }
     Ok(())
 }
@@ -176,12 +181,13 @@ fn guesses_about_4096_rows_are_asked(rt: HostRuntime) -> Result<(), Fail> {
         let rows = repeated(alloc, count)?;
         let point = point_of(alloc, &[0], 1)?;
         assert!(rt; is_point_of(rows.as_slice(), &point));
-        let guess = Guess::Point(point);
+        let got = settled(&rt, alloc, rows.as_slice(), 1, Guess::Point(point));
         assert!(rt;
-            settles(alloc, rows.as_slice(), 9000, guess, &want),
-            "{count} rows"
+            is_wanted(&got, &want),
+            "a guess about {count} rows: {got:?}"
         );
-        assert!(rt; proves(alloc, rows.as_slice(), 9000, &want), "{count} rows");
+        let got = proved(&rt, alloc, rows.as_slice(), 1);
+        assert!(rt; is_wanted(&got, &want), "{count} rows: {got:?}");
     }
     Ok(())
 }
