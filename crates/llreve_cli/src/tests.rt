@@ -1,6 +1,8 @@
-//! The whole command over files and sinks in memory. A row's right side is the status, and what both
-//! sinks hold.
+//! The whole command over files and sinks in memory. A row's right side is the status, and what
+//! both sinks hold.
+mod random;
 mod refused;
+mod results;
 mod runs;
 mod sampled;
 
@@ -44,8 +46,8 @@ int f(int n) {
 }
 ";
 
-/// What a run of the command meets: the texts of `A.c` and `B.c`, the numbers of the calls that fail,
-/// and how many bytes a call of a sink takes at most.
+/// What a run of the command meets: the texts of `A.c` and `B.c`, the numbers of the calls that
+/// fail, and how many bytes a call of a sink takes at most.
 #[derive(Clone, Copy)]
 struct Run<'a> {
     first: &'a str,
@@ -82,20 +84,42 @@ impl<'a> Run<'a> {
         Ok(MemFiles::new(held, self.reads.to_vec(alloc)?))
     }
 
-    /// The status, a bar, what the output holds, a bar, and what the errors' output holds.
-    fn told(&self, alloc: Global, names: &[&str]) -> Result<String, AllocError> {
-        let mut files = self.files(alloc)?;
-        let most = self.most.max(1);
-        let mut out = MemSink::new(alloc, 200, most, self.puts.to_vec(alloc)?)?;
-        let mut err = MemSink::new(alloc, 200, most, self.puts.to_vec(alloc)?)?;
-        let mut words = Vec::new(alloc);
-        for word in names {
-            words.push(String::from_str(alloc, word)?)?;
-        }
-        let status = llreve_alone(alloc, &words, &mut files, &mut out, &mut err);
-        let (out, err) = (str::from_utf8(out.bytes()), str::from_utf8(err.bytes()));
-        format!(in alloc; "{status}|{}|{}", out.unwrap_or("?"), err.unwrap_or("?"))
+    /// A sink of either output.
+    fn sink(&self, alloc: Global) -> Result<MemSink, AllocError> {
+        MemSink::new(alloc, 200, self.most.max(1), self.puts.to_vec(alloc)?)
     }
+
+    fn told_on(
+        &self,
+        alloc: Global,
+        words: &[String],
+        files: &mut MemFiles,
+    ) -> Result<String, AllocError> {
+        let mut out = self.sink(alloc)?;
+        let mut err = self.sink(alloc)?;
+        let status = llreve_alone(alloc, words, files, &mut out, &mut err);
+        shown(alloc, status, &out, &err)
+    }
+
+    /// The status, a bar, what the output holds, a bar, and what the errors' output holds.
+    fn told(&self, alloc: Global, words: &[&str]) -> Result<String, AllocError> {
+        let mut files = self.files(alloc)?;
+        let words = words_of(alloc, words)?;
+        self.told_on(alloc, &words, &mut files)
+    }
+}
+
+fn words_of(alloc: Global, words: &[&str]) -> Result<Vec<String>, AllocError> {
+    let mut out = Vec::new(alloc);
+    for word in words {
+        out.push(String::from_str(alloc, word)?)?;
+    }
+    Ok(out)
+}
+
+fn shown(alloc: Global, status: u8, out: &MemSink, err: &MemSink) -> Result<String, AllocError> {
+    let (out, err) = (str::from_utf8(out.bytes()), str::from_utf8(err.bytes()));
+    format!(in alloc; "{status}|{}|{}", out.unwrap_or("?"), err.unwrap_or("?"))
 }
 
 /// What is told of two texts with these options.
@@ -114,331 +138,404 @@ fn told_with(
 /// Two texts with equal results at all samples, which no form decides.
 const EQUAL: &str = "2|unknown\nequal 0-99\n|";
 
+// A sum that leaves 3 out, by a `continue` and by a branch.
+const SKIPPING: &str =
+    "int f(int n){int s=0; for(int i=0; __mark(7) & (i<n); i++){if(i==3) continue; s+=i;} \
+    return s;}";
+
+const STEPPING: &str =
+    "int f(int n){int s=0; int i=0; while(__mark(7) & (i<n)){if(i!=3) s=s+i; i=i+1;} return s;}";
+
+/// The texts of the two files, and what is told of them.
+const COMPARED: [(&str, &str, &str); 24] = [
+    (DOUBLE, TWICE, "0|equivalent\n|"),
+    (
+        "int f(int a){return a-a;}",
+        "int g(int b){return 0;}",
+        "0|equivalent\n|",
+    ),
+    (
+        "int f(void){return 2*3+1;}",
+        "int f(){return 7;}",
+        "0|equivalent\n|",
+    ),
+    (
+        "int f(void){return 010;}",
+        "int f(void){return 8;}",
+        "0|equivalent\n|",
+    ),
+    (
+        "int f(int a, int b){\n\treturn 3*a - 2*b - a;\n}\n",
+        "int f(int x, int y){ return +(2*(x-y)) ; }",
+        "0|equivalent\n|",
+    ),
+    (
+        "int f(int a){return -a;}",
+        "extern long f(long a){return 0-a;}",
+        "0|equivalent\n|",
+    ),
+    (
+        "int f(int a){;return a;}",
+        "int f(int a){return a;}",
+        "0|equivalent\n|",
+    ),
+    (
+        "int f(int a){return 1125899906842623;}",
+        "int f(int a){return 1125899906842623;}",
+        "0|equivalent\n|",
+    ),
+    // The least sample that tells the functions apart is told.
+    (
+        "int f(int a){return a+1;}",
+        "int f(int a){return a-1;}",
+        "1|different\nsample 0\ninput 0\nA returns 1\nB returns -1\n|",
+    ),
+    (
+        "int f(int a,int b){return a-b;}",
+        "int f(int a,int b){return b-a;}",
+        "1|different\nsample 1\ninput 1 0\nA returns 1\nB returns -1\n|",
+    ),
+    (
+        "int f(int a){int r=0; if(a>0) if(a>1) r=1; else r=2; return r;}",
+        "int f(int a){int r=0; if(a>0){if(a>1) r=1;} else r=2; return r;}",
+        "1|different\nsample 0\ninput 0\nA returns 0\nB returns 2\n|",
+    ),
+    (
+        "int f(void){return 1;}",
+        "int f(void){return 2;}",
+        "1|different\nsample 0\ninput\nA returns 1\nB returns 2\n|",
+    ),
+    // A difference that no sample meets.
+    (
+        "int f(int a){return a;}",
+        "int f(int a){if (a == 1000) return 0; return a;}",
+        EQUAL,
+    ),
+    (
+        "int f(int a){return a*a;}",
+        "int f(int a){return a*a;}",
+        EQUAL,
+    ),
+    (
+        "int f(int a){return a?a:a;}",
+        "int f(int a){return a;}",
+        EQUAL,
+    ),
+    (
+        "int f(int a){return 9223372036854775807;}",
+        "int f(int a){return 9223372036854775807;}",
+        EQUAL,
+    ),
+    (
+        "int f(void){int x = x + 1; return x;}",
+        "int f(void){return 1;}",
+        EQUAL,
+    ),
+    (SKIPPING, STEPPING, EQUAL),
+    (
+        "int f(int n){int i=0; do i++; while(i<n); return i;}",
+        "int f(int n){int i=1; while(i<n) i++; return i;}",
+        EQUAL,
+    ),
+    (
+        "int f(int a){int x=a; {int x=1; x=5;} return x;}",
+        "int f(int a){return a;}",
+        EQUAL,
+    ),
+    (USERS_FIRST, USERS_SECOND, EQUAL),
+    (
+        "int f(int a){return a;}",
+        "int f(int a,int b){return a;}",
+        "3||llreve: arity 1 and 2\n",
+    ),
+    // The texts are judged one after the other, and before the numbers of parameters.
+    ("int f(int a){", "'", "3||llreve: A.c: not in the grammar\n"),
+    (
+        DOUBLE,
+        "int f(int a,int b){return c;}",
+        "3||llreve: B.c:1: undeclared c\n",
+    ),
+];
+
 #[test]
 fn texts_are_compared(rt: HostRuntime) -> Result<(), Fail> {
-    let rows = [
-        (DOUBLE, TWICE, "0|equivalent\n|"),
-        (
-            "int f(int a){return a-a;}",
-            "int g(int b){return 0;}",
-            "0|equivalent\n|",
-        ),
-        (
-            "int f(void){return 2*3+1;}",
-            "int f(){return 7;}",
-            "0|equivalent\n|",
-        ),
-        (
-            "int f(void){return 010;}",
-            "int f(void){return 8;}",
-            "0|equivalent\n|",
-        ),
-        (
-            "int f(int a, int b){\n\treturn 3*a - 2*b - a;\n}\n",
-            "int f(int x, int y){ return +(2*(x-y)) ; }",
-            "0|equivalent\n|",
-        ),
-        (
-            "int f(int a){return -a;}",
-            "extern long f(long a){return 0-a;}",
-            "0|equivalent\n|",
-        ),
-        (
-            "int f(int a){;return a;}",
-            "int f(int a){return a;}",
-            "0|equivalent\n|",
-        ),
-        (
-            "int f(int a){return 1125899906842623;}",
-            "int f(int a){return 1125899906842623;}",
-            "0|equivalent\n|",
-        ),
-        // The least sample that tells the functions apart is told.
-        (
-            "int f(int a){return a+1;}",
-            "int f(int a){return a-1;}",
-            "1|different\nsample 0\ninput 0\nA returns 1\nB returns -1\n|",
-        ),
-        (
-            "int f(int a,int b){return a-b;}",
-            "int f(int a,int b){return b-a;}",
-            "1|different\nsample 1\ninput 1 0\nA returns 1\nB returns -1\n|",
-        ),
-        (
-            "int f(int a){int r=0; if(a>0) if(a>1) r=1; else r=2; return r;}",
-            "int f(int a){int r=0; if(a>0){if(a>1) r=1;} else r=2; return r;}",
-            "1|different\nsample 0\ninput 0\nA returns 0\nB returns 2\n|",
-        ),
-        (
-            "int f(void){return 1;}",
-            "int f(void){return 2;}",
-            "1|different\nsample 0\ninput\nA returns 1\nB returns 2\n|",
-        ),
-        // A difference that no sample meets.
-        (
-            "int f(int a){return a;}",
-            "int f(int a){if (a == 1000) return 0; return a;}",
-            EQUAL,
-        ),
-        (
-            "int f(int a){return a*a;}",
-            "int f(int a){return a*a;}",
-            EQUAL,
-        ),
-        (
-            "int f(int a){return a?a:a;}",
-            "int f(int a){return a;}",
-            EQUAL,
-        ),
-        (
-            "int f(int a){return 9223372036854775807;}",
-            "int f(int a){return 9223372036854775807;}",
-            EQUAL,
-        ),
-        (
-            "int f(void){int x = x + 1; return x;}",
-            "int f(void){return 1;}",
-            EQUAL,
-        ),
-        (
-            "int f(int n){int s=0; for(int i=0; __mark(7) & (i<n); i++){if(i==3) continue; s+=i;} return s;}",
-            "int f(int n){int s=0; int i=0; while(__mark(7) & (i<n)){if(i!=3) s=s+i; i=i+1;} return s;}",
-            EQUAL,
-        ),
-        (
-            "int f(int n){int i=0; do i++; while(i<n); return i;}",
-            "int f(int n){int i=1; while(i<n) i++; return i;}",
-            EQUAL,
-        ),
-        (
-            "int f(int a){int x=a; {int x=1; x=5;} return x;}",
-            "int f(int a){return a;}",
-            EQUAL,
-        ),
-        (USERS_FIRST, USERS_SECOND, EQUAL),
-        (
-            "int f(int a){return a;}",
-            "int f(int a,int b){return a;}",
-            "3||llreve: arity 1 and 2\n",
-        ),
-        // The texts are judged one after the other, and before the numbers of parameters.
-        ("int f(int a){", "'", "3||llreve: A.c: not in the grammar\n"),
-        (
-            DOUBLE,
-            "int f(int a,int b){return c;}",
-            "3||llreve: B.c:1: undeclared c\n",
-        ),
-    ];
-    for (first, second, want) in rows {
+    for (first, second, want) in COMPARED.as_slice() {
         let got = Run::on(first, second).told(rt.alloc(), &NAMES)?;
-        assert_eq!(rt; got.as_str(), want, "{first} and {second}");
+        assert_eq!(rt; got.as_str(), *want, "{first} and {second}");
     }
     Ok(())
 }
+
+const SQUARES: &str = "int f(int x){int i=0; while(__mark(3) & (i<60)){x=x*x; i=i+1;} return x;}";
+
+const SQUARED: &str = "int f(int x){int i=0; while(__mark(3) & (i<60)){i=i+1; x=x*x;} return x;}";
+
+const WAITING: &str = "int f(int x){while(__mark(3) & x); return 0;}";
+
+const FEW: &str = "int f(void){int i=0; while(__mark(1) & (i<63)) i=i+1; return i;}";
+
+const MANY: &str = "int f(void){int i=0; while(__mark(1) & (i<64)) i=i+1; return i;}";
+
+const OTHER: &str = "int f(int x){if (x < -18) return 1; return 0;}";
+
+/// The texts of the two files, the options, and what is told of them.
+const SAMPLED: [(&str, &str, &[&str], &str); 9] = [
+    (
+        SQUARES,
+        SQUARED,
+        &["--samples", "5"],
+        "2|unknown\nequal 0-1 3\nwide A 2 4\n|",
+    ),
+    (
+        "int f(int x){return 1;}",
+        SQUARED,
+        &["--samples=5"],
+        "1|different\nsample 0\ninput 0\nA returns 1\nB returns 0\n|",
+    ),
+    // No sample that is skipped on a side can tell the functions apart.
+    (
+        "int f(int x){return 0*x*x;}",
+        WAITING,
+        &["--samples=5"],
+        "2|unknown\nequal 0\nnot-ended B 1-4\n|",
+    ),
+    (
+        SQUARES,
+        WAITING,
+        &["--samples=5"],
+        "2|unknown\nequal 0\nwide A 2 4\nnot-ended B 1 3\n|",
+    ),
+    (FEW, FEW, &["--samples=1"], "2|unknown\nequal 0\n|"),
+    (MANY, MANY, &["--samples=1"], "2|unknown\nnot-ended A 0\n|"),
+    (
+        MANY,
+        MANY,
+        &["--samples=1", "--marks=65"],
+        "2|unknown\nequal 0\n|",
+    ),
+    (
+        "int f(int x){return 0*x*x;}",
+        OTHER,
+        &["--samples=9"],
+        "2|unknown\nequal 0-8\n|",
+    ),
+    (
+        DOUBLE,
+        TWICE,
+        &["--rows=1", "--workers=64", "--seed=7"],
+        "0|equivalent\n|",
+    ),
+];
 
 #[test]
 fn samples_are_bounded(rt: HostRuntime) -> Result<(), Fail> {
-    let squares = "int f(int x){int i=0; while(__mark(3) & (i<60)){x=x*x; i=i+1;} return x;}";
-    let squared = "int f(int x){int i=0; while(__mark(3) & (i<60)){i=i+1; x=x*x;} return x;}";
-    let waiting = "int f(int x){while(__mark(3) & x); return 0;}";
-    let few = "int f(void){int i=0; while(__mark(1) & (i<63)) i=i+1; return i;}";
-    let many = "int f(void){int i=0; while(__mark(1) & (i<64)) i=i+1; return i;}";
-    let other = "int f(int x){if (x < -18) return 1; return 0;}";
-    let rows: [(&str, &str, &[&str], &str); 9] = [
-        (
-            squares,
-            squared,
-            &["--samples", "5"],
-            "2|unknown\nequal 0-1 3\nwide A 2 4\n|",
-        ),
-        (
-            "int f(int x){return 1;}",
-            squared,
-            &["--samples=5"],
-            "1|different\nsample 0\ninput 0\nA returns 1\nB returns 0\n|",
-        ),
-        // No sample that is skipped on a side can tell the functions apart.
-        (
-            "int f(int x){return 0*x*x;}",
-            waiting,
-            &["--samples=5"],
-            "2|unknown\nequal 0\nnot-ended B 1-4\n|",
-        ),
-        (
-            squares,
-            waiting,
-            &["--samples=5"],
-            "2|unknown\nequal 0\nwide A 2 4\nnot-ended B 1 3\n|",
-        ),
-        (few, few, &["--samples=1"], "2|unknown\nequal 0\n|"),
-        (many, many, &["--samples=1"], "2|unknown\nnot-ended A 0\n|"),
-        (
-            many,
-            many,
-            &["--samples=1", "--marks=65"],
-            "2|unknown\nequal 0\n|",
-        ),
-        (
-            "int f(int x){return 0*x*x;}",
-            other,
-            &["--samples=9"],
-            "2|unknown\nequal 0-8\n|",
-        ),
-        (
-            DOUBLE,
-            TWICE,
-            &["--rows=1", "--workers=64", "--seed=7"],
-            "0|equivalent\n|",
-        ),
-    ];
-    for (first, second, options, want) in rows {
+    for (first, second, options, want) in SAMPLED.as_slice() {
         let got = told_with(rt.alloc(), first, second, options)?;
-        assert_eq!(rt; got.as_str(), want, "{first} and {second}");
+        assert_eq!(rt; got.as_str(), *want, "{first} and {second}");
     }
     Ok(())
 }
+
+const GIVEN: &str = "int f(int a){return a;}";
+
+const SIZE: &str = "int f(int a){if (a < 0) return -a; return a;}";
+
+/// The texts of the two files, the condition, and what is told of them.
+const CONDITIONED: [(&str, &str, &str, &str); 15] = [
+    (
+        GIVEN,
+        SIZE,
+        "--seed=0",
+        "1|different\nsample 3\ninput -1\nA returns -1\nB returns 1\n|",
+    ),
+    (
+        GIVEN,
+        SIZE,
+        "--pre=a >= 0",
+        "2|unknown\nequal 0-2 4\nunmet pre 3\n|",
+    ),
+    (
+        GIVEN,
+        SIZE,
+        "--pre=a / 2 == 0 && a",
+        "1|different\nsample 3\ninput -1\nA returns -1\nB returns 1\n|",
+    ),
+    (GIVEN, DOUBLE, "--pre=0", "2|unknown\nunmet pre 0-4\n|"),
+    (
+        GIVEN,
+        SIZE,
+        "--pre=9223372036854775807 * 9223372036854775807",
+        "2|unknown\nwide pre 0-4\n|",
+    ),
+    // Equal forms never differ, whatever the condition.
+    (DOUBLE, TWICE, "--pre=0", "0|equivalent\n|"),
+    // The condition is over the first function's parameters, and is read after the arity.
+    (
+        DOUBLE,
+        "int g(int b){return b+b;}",
+        "--pre=a",
+        "0|equivalent\n|",
+    ),
+    (
+        DOUBLE,
+        "int f(int a,int b){return a;}",
+        "--pre=@",
+        "3||llreve: arity 1 and 2\n",
+    ),
+    (DOUBLE, TWICE, "--pre=@", "3||llreve: --pre:1:1: no token\n"),
+    (
+        DOUBLE,
+        TWICE,
+        "--pre=\nb > 0",
+        "3||llreve: --pre:2: undeclared b\n",
+    ),
+    (
+        DOUBLE,
+        TWICE,
+        "--pre=a / 0",
+        "3||llreve: --pre:1: divisor not a nonzero constant\n",
+    ),
+    (
+        DOUBLE,
+        TWICE,
+        "--pre=__mark(1) & (a > 0)",
+        "3||llreve: --pre: not in the grammar\n",
+    ),
+    (
+        DOUBLE,
+        TWICE,
+        "--pre=a = 1",
+        "3||llreve: --pre: not in the grammar\n",
+    ),
+    (
+        DOUBLE,
+        TWICE,
+        "--pre= ",
+        "3||llreve: --pre: not in the grammar\n",
+    ),
+    (
+        DOUBLE,
+        TWICE,
+        "--pre=",
+        "3||llreve: usage: llreve [options] FIRST SECOND\n",
+    ),
+];
 
 #[test]
 fn conditions_bound_the_inputs(rt: HostRuntime) -> Result<(), Fail> {
-    let given = "int f(int a){return a;}";
-    let size = "int f(int a){if (a < 0) return -a; return a;}";
-    let rows: [(&str, &str, &str, &str); 15] = [
-        (
-            given,
-            size,
-            "--seed=0",
-            "1|different\nsample 3\ninput -1\nA returns -1\nB returns 1\n|",
-        ),
-        (
-            given,
-            size,
-            "--pre=a >= 0",
-            "2|unknown\nequal 0-2 4\nunmet pre 3\n|",
-        ),
-        (
-            given,
-            size,
-            "--pre=a / 2 == 0 && a",
-            "1|different\nsample 3\ninput -1\nA returns -1\nB returns 1\n|",
-        ),
-        (given, DOUBLE, "--pre=0", "2|unknown\nunmet pre 0-4\n|"),
-        (
-            given,
-            size,
-            "--pre=9223372036854775807 * 9223372036854775807",
-            "2|unknown\nwide pre 0-4\n|",
-        ),
-        // Equal forms never differ, whatever the condition.
-        (DOUBLE, TWICE, "--pre=0", "0|equivalent\n|"),
-        // The condition is over the first function's parameters, and is read after the arity.
-        (
-            DOUBLE,
-            "int g(int b){return b+b;}",
-            "--pre=a",
-            "0|equivalent\n|",
-        ),
-        (
-            DOUBLE,
-            "int f(int a,int b){return a;}",
-            "--pre=@",
-            "3||llreve: arity 1 and 2\n",
-        ),
-        (DOUBLE, TWICE, "--pre=@", "3||llreve: --pre:1:1: no token\n"),
-        (
-            DOUBLE,
-            TWICE,
-            "--pre=\nb > 0",
-            "3||llreve: --pre:2: undeclared b\n",
-        ),
-        (
-            DOUBLE,
-            TWICE,
-            "--pre=a / 0",
-            "3||llreve: --pre:1: divisor not a nonzero constant\n",
-        ),
-        (
-            DOUBLE,
-            TWICE,
-            "--pre=__mark(1) & (a > 0)",
-            "3||llreve: --pre: not in the grammar\n",
-        ),
-        (
-            DOUBLE,
-            TWICE,
-            "--pre=a = 1",
-            "3||llreve: --pre: not in the grammar\n",
-        ),
-        (
-            DOUBLE,
-            TWICE,
-            "--pre= ",
-            "3||llreve: --pre: not in the grammar\n",
-        ),
-        (
-            DOUBLE,
-            TWICE,
-            "--pre=",
-            "3||llreve: usage: llreve [options] FIRST SECOND\n",
-        ),
-    ];
-    for (first, second, condition, want) in rows {
+    for (first, second, condition, want) in CONDITIONED.as_slice() {
         let got = told_with(rt.alloc(), first, second, &["--samples=5", condition])?;
-        assert_eq!(rt; got.as_str(), want, "{condition}");
+        assert_eq!(rt; got.as_str(), *want, "{condition}");
     }
     Ok(())
 }
 
+const CHOSEN: &str = "int f(int a){return a ? a : a;}";
+
+/// Conditions with each operator, and which of the inputs 0, 1, 2, -1 and 7 meet them in C, told of
+/// two functions that are equal on all.
+#[rattlefmt::skip]
+const OPERATORS: [(&str, &str); 23] = [
+    ("--pre=a * (a - 1)", "2|unknown\nequal 2-4\nunmet pre 0-1\n|"),
+    ("--pre=a / 2", "2|unknown\nequal 2 4\nunmet pre 0-1 3\n|"),
+    ("--pre=a / -2 + 1", "2|unknown\nequal 0-1 3-4\nunmet pre 2\n|"),
+    ("--pre=a % 2", "2|unknown\nequal 1 3-4\nunmet pre 0 2\n|"),
+    ("--pre=a % -2 == 1", "2|unknown\nequal 1 4\nunmet pre 0 2-3\n|"),
+    ("--pre=a + 1", "2|unknown\nequal 0-2 4\nunmet pre 3\n|"),
+    ("--pre=a - 2", "2|unknown\nequal 0-1 3-4\nunmet pre 2\n|"),
+    ("--pre=a < 1", "2|unknown\nequal 0 3\nunmet pre 1-2 4\n|"),
+    ("--pre=a <= 1", "2|unknown\nequal 0-1 3\nunmet pre 2 4\n|"),
+    ("--pre=a > 1", "2|unknown\nequal 2 4\nunmet pre 0-1 3\n|"),
+    ("--pre=a >= 1", "2|unknown\nequal 1-2 4\nunmet pre 0 3\n|"),
+    ("--pre=a == 1", "2|unknown\nequal 1\nunmet pre 0 2-4\n|"),
+    ("--pre=a != 1", "2|unknown\nequal 0 2-4\nunmet pre 1\n|"),
+    ("--pre=a && a - 1", "2|unknown\nequal 2-4\nunmet pre 0-1\n|"),
+    ("--pre=a / 2 || a + 1", "2|unknown\nequal 0-2 4\nunmet pre 3\n|"),
+    ("--pre=!a", "2|unknown\nequal 0\nunmet pre 1-4\n|"),
+    ("--pre=-a > 0", "2|unknown\nequal 3\nunmet pre 0-2 4\n|"),
+    ("--pre=+a", "2|unknown\nequal 1-4\nunmet pre 0\n|"),
+    ("--pre=a ? a - 1 : 1", "2|unknown\nequal 0 2-4\nunmet pre 1\n|"),
+    ("--pre=(a + 1) * 2", "2|unknown\nequal 0-2 4\nunmet pre 3\n|"),
+    ("--pre=a + 1 * -2", "2|unknown\nequal 0-1 3-4\nunmet pre 2\n|"),
+    ("--pre=- -a == +7 || !!a == a", "2|unknown\nequal 0-1 4\nunmet pre 2-3\n|"),
+    ("--pre=a < 0 || a > 1 && a != 7", "2|unknown\nequal 2-3\nunmet pre 0-1 4\n|"),
+];
+
 #[test]
-fn words_are_judged_first(rt: HostRuntime) -> Result<(), Fail> {
-    let usage = "3||llreve: usage: llreve [options] FIRST SECOND\n";
-    let rows: [(&[&str], &str); 12] = [
-        (&["A.c", "--alone", "B.c"], "0|equivalent\n|"),
-        (
-            &["--seed", "+007", "B.c", "--alone", "--", "A.c"],
-            "0|equivalent\n|",
-        ),
-        (&["--alone", "A.c", "A.c"], "0|equivalent\n|"),
-        (
-            &["--alone", "A.c", "make"],
-            "4||llreve: make: cannot be read\n",
-        ),
-        (
-            &["--alone", "C.c", "B.c"],
-            "4||llreve: C.c: cannot be read\n",
-        ),
-        (&["--alone", "", "-"], "4||llreve: : cannot be read\n"),
-        (&["A.c", "B.c"], usage),
-        (&["--alone", "A.c"], usage),
-        (&["--alone", "make", "1"], usage),
-        (&["--alone", "A.c", "B.c", "--history"], usage),
-        (&["--alone", "A.c", "B.c", "--samples", "0"], usage),
-        (
-            &["--alone", "C.c", "B.c", "--samples=5", "--samples=5"],
-            usage,
-        ),
-    ];
-    for (words, want) in rows {
-        let got = Run::on(DOUBLE, TWICE).told(rt.alloc(), words)?;
-        assert_eq!(rt; got.as_str(), want, "{words:?}");
+fn conditions_have_the_values_of_c(rt: HostRuntime) -> Result<(), Fail> {
+    for (condition, want) in OPERATORS.as_slice() {
+        let got = told_with(rt.alloc(), GIVEN, CHOSEN, &["--samples=5", condition])?;
+        assert_eq!(rt; got.as_str(), *want, "{condition}");
     }
     Ok(())
+}
+
+const USAGE: &str = "3||llreve: usage: llreve [options] FIRST SECOND\n";
+
+/// The words, and what is told.
+const WORDS: [(&[&str], &str); 12] = [
+    (&["A.c", "--alone", "B.c"], "0|equivalent\n|"),
+    (
+        &["--seed", "+007", "B.c", "--alone", "--", "A.c"],
+        "0|equivalent\n|",
+    ),
+    (&["--alone", "A.c", "A.c"], "0|equivalent\n|"),
+    (
+        &["--alone", "A.c", "make"],
+        "4||llreve: make: cannot be read\n",
+    ),
+    (
+        &["--alone", "C.c", "B.c"],
+        "4||llreve: C.c: cannot be read\n",
+    ),
+    (&["--alone", "", "-"], "4||llreve: : cannot be read\n"),
+    (&["A.c", "B.c"], USAGE),
+    (&["--alone", "A.c"], USAGE),
+    (&["--alone", "make", "1"], USAGE),
+    (&["--alone", "A.c", "B.c", "--history"], USAGE),
+    (&["--alone", "A.c", "B.c", "--samples", "0"], USAGE),
+    (
+        &["--alone", "C.c", "B.c", "--samples=5", "--samples=5"],
+        USAGE,
+    ),
+];
+
+#[test]
+fn words_are_judged_first(rt: HostRuntime) -> Result<(), Fail> {
+    for (words, want) in WORDS.as_slice() {
+        let got = Run::on(DOUBLE, TWICE).told(rt.alloc(), words)?;
+        assert_eq!(rt; got.as_str(), *want, "{words:?}");
+    }
+    Ok(())
+}
+
+/// The text of the first file, the number of the read that fails, and what is told.
+const READS: [(&str, u32, &str); 4] = [
+    (DOUBLE, 0, "4||llreve: A.c: cannot be read\n"),
+    (DOUBLE, 1, "4||llreve: B.c: cannot be read\n"),
+    // Both files are read before a text is parsed.
+    ("", 1, "4||llreve: B.c: cannot be read\n"),
+    (DOUBLE, 2, "0|equivalent\n|"),
+];
+
+/// What is told where the read with this number fails.
+fn told_after(alloc: Global, first: &str, read: u32) -> Result<String, AllocError> {
+    let failing = [read];
+    let run = Run {
+        reads: &failing,
+        ..Run::on(first, TWICE)
+    };
+    run.told(alloc, &NAMES)
 }
 
 #[test]
 fn reads_fail(rt: HostRuntime) -> Result<(), Fail> {
-    for (first, read, want) in [
-        (DOUBLE, 0, "4||llreve: A.c: cannot be read\n"),
-        (DOUBLE, 1, "4||llreve: B.c: cannot be read\n"),
-        // Both files are read before a text is parsed.
-        ("", 1, "4||llreve: B.c: cannot be read\n"),
-        (DOUBLE, 2, "0|equivalent\n|"),
-    ] {
-        let failing = [read];
-        let run = Run {
-            reads: &failing,
-            ..Run::on(first, TWICE)
-        };
-        assert_eq!(rt; run.told(rt.alloc(), &NAMES)?.as_str(), want, "read {read}");
+    for (first, read, want) in READS.as_slice() {
+        assert_eq!(rt;
+            told_after(rt.alloc(), first, *read)?.as_str(),
+            *want,
+            "read {read}"
+        );
     }
     Ok(())
 }
@@ -454,42 +551,50 @@ fn cut(alloc: Global, first: &str, call: u32) -> Result<String, AllocError> {
     run.told(alloc, &NAMES)
 }
 
+/// The text of the first file, and what is told on the output and on the errors' output.
+const WRITTEN: [(&str, &str, &str); 4] = [
+    (DOUBLE, "equivalent\n", ""),
+    (
+        "int f(int a){return 1;}",
+        "different\nsample 0\ninput 0\nA returns 1\nB returns 0\n",
+        "",
+    ),
+    ("int f(int a){return a?a+a:a;}", "unknown\nequal 0-99\n", ""),
+    ("", "", "llreve: A.c: no function\n"),
+];
+
+/// Whether a run that fails at each letter of a text in turn leaves the letters before it between
+/// these bars.
+fn leaves_fronts(
+    alloc: Global,
+    first: &str,
+    bars: (&str, &str),
+    text: &str,
+) -> Result<bool, AllocError> {
+    let mut want = String::from_str(alloc, bars.0)?;
+    let mut call = 0_u32;
+    for letter in text.chars() {
+        let left = cut(alloc, first, call)?;
+        if left.as_str().strip_suffix(bars.1) != Some(want.as_str()) {
+            return Ok(false);
+        }
+        want.push(letter)?;
+        call = call.saturating_add(1);
+    }
+    Ok(true)
+}
+
 #[test]
 fn a_failed_write_leaves_a_front(rt: HostRuntime) -> Result<(), Fail> {
-    let alloc = rt.alloc();
-    let rows = [
-        (DOUBLE, "equivalent\n", ""),
-        (
-            "int f(int a){return 1;}",
-            "different\nsample 0\ninput 0\nA returns 1\nB returns 0\n",
-            "",
-        ),
-        ("int f(int a){return a?a+a:a;}", "unknown\nequal 0-99\n", ""),
-        ("", "", "llreve: A.c: no function\n"),
-    ];
-    for (text, out, err) in rows {
-        let (mut out_front, mut err_front) = (String::new(alloc), String::new(alloc));
-        let mut call = 0;
-        for letter in out.chars() {
-            let want = format!(in alloc; "5|{}|", out_front.as_str())?;
-            assert_eq!(rt;
-                cut(alloc, text, call)?.as_str(),
-                want.as_str(),
-                "{text} {call}"
-            );
-            out_front.push(letter)?;
-            call = call.saturating_add(1);
-        }
-        for letter in err.chars() {
-            let want = format!(in alloc; "5||{}", err_front.as_str())?;
-            assert_eq!(rt;
-                cut(alloc, text, call)?.as_str(),
-                want.as_str(),
-                "{text} {call}"
-            );
-            err_front.push(letter)?;
-            call = call.saturating_add(1);
-        }
+    for (first, out, err) in WRITTEN.as_slice() {
+        assert!(rt;
+            leaves_fronts(rt.alloc(), first, ("5|", "|"), out)?,
+            "{first}"
+        );
+        assert!(rt;
+            leaves_fronts(rt.alloc(), first, ("5||", ""), err)?,
+            "{first}"
+        );
     }
     Ok(())
 }
