@@ -1,0 +1,11 @@
+pub mod Walks
+pub mod Points
+pub mod Rows
+pub mod Quotients
+pub mod Divisions
+pub mod Tests
+pub mod Expressions
+pub mod Nodes
+pub mod Fitted
+pub mod Cases
+pub mod Conditions
