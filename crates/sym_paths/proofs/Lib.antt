@@ -9,3 +9,5 @@ pub mod Nodes
 pub mod Fitted
 pub mod Cases
 pub mod Conditions
+pub mod Samples
+pub mod Laws
