@@ -149,5 +149,6 @@ law_of_cases graph is l goes cases made e l' e' exact = on (collect 1024 (segmen
         → IsGraphSegment graph l e l' e' ↔ SomeOf (LeadsTo e l' e') cases
     on (Ok paths) collected made =
         let same : map completed paths ≡ cases = cc in
-        subst (λ (cs : List Case). IsGraphSegment graph l e l' e' ↔ SomeOf (LeadsTo e l' e') cs) same (both_ways graph is l goes e width_exact paths collected l' e')
+        subst (λ (cs : List Case). IsGraphSegment graph l e l' e'
+            ↔ SomeOf (LeadsTo e l' e') cs) same (both_ways graph is l goes e width_exact paths collected l' e')
     on (Err limit) collected made = cc

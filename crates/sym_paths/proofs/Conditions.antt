@@ -63,7 +63,8 @@ module _ (arity : ℕ) (c : Expression) (can : CanEvaluate arity c) (inputs : Li
 
   each_says : EachArrives Says (condition_walk arity c)
   each_says =
-      onward_each where_true _ Says (condition (symbolic (room_for arity) forms c) (start_state arity)) (λ path i. only_true path.value path.state i) tests.sound
+      onward_each where_true _ Says (condition (symbolic (room_for arity) forms c) (start_state arity))
+          (λ path i. only_true path.value path.state i) tests.sound
     where
       only_true : (answer : Bool) (state : State)
           → ((point : List ℤ) → IsPoint point state → IsPoint point (start_state arity) × (Begun point → Begun point × (answer ≡ is_nonzero (eval c inputs))))

@@ -205,7 +205,8 @@ module _ (room d : ℕ) (f : Form) (v : ℤ) (some : 1 ≤ d) (state : State) (b
         some_left _ (all_joined (rows_from_zero (pos d) f rest) pair (with_column state)) (all_joined (rows_below_zero (pos d) f rest) pair (with_column state))
         (found (rows_from_zero (pos d) f rest) (from_zero_hold sign))
     by_sign (inr sign) =
-        some_right _ (all_joined (rows_from_zero (pos d) f rest) pair (with_column state)) (all_joined (rows_below_zero (pos d) f rest) pair (with_column state))
+        some_right _ (all_joined (rows_from_zero (pos d) f rest) pair (with_column state))
+            (all_joined (rows_below_zero (pos d) f rest) pair (with_column state))
         (found (rows_below_zero (pos d) f rest) (below_zero_hold sign))
 
   sign_of : (z : ℤ) → (pos 0 ≤ℤ z) ⊎ (z <ℤ pos 0)
@@ -215,7 +216,8 @@ module _ (room d : ℕ) (f : Form) (v : ℤ) (some : 1 ≤ d) (state : State) (b
   pub divided_splits : Splits state (λ point. HasValue point f v) (HaveParts v d) (divided_by room true (pos d) f state)
   divided_splits = record {
     sound = each_made _ (with_column state) _ (multiple_of (pos d) quotient) (each_made _ (with_column state) _ rest
-      (each_append _ (all_joined (rows_from_zero (pos d) f rest) pair (with_column state)) (all_joined (rows_below_zero (pos d) f rest) pair (with_column state))
+      (each_append _ (all_joined (rows_from_zero (pos d) f rest) pair (with_column state))
+          (all_joined (rows_below_zero (pos d) f rest) pair (with_column state))
         (one_way (rows_from_zero (pos d) f rest) pins_from_zero) (one_way (rows_below_zero (pos d) f rest) pins_below_zero)));
     complete = λ point at has. some_made _ (with_column state) _ (multiple_of (pos d) quotient) (some_made _ (with_column state) _ rest
       (by_sign point at has (sign_of v)));

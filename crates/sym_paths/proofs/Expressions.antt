@@ -44,7 +44,8 @@ opposite v = omega (arith, ints)
 
 has_difference : (point : List ℤ) (f g : Form) (u v : ℤ) → HasValue point f u → HasValue point g v → HasValue point (difference_of f g) (u -ℤ v)
 has_difference point f g u v first second =
-    has_same point (difference_of f g) _ _ (less_once u v) (has_sum point f (multiple_of (negsuc 0) g) u (negsuc 0 *ℤ v) first (has_multiple point (negsuc 0) g v second))
+    has_same point (difference_of f g) _ _ (less_once u v)
+        (has_sum point f (multiple_of (negsuc 0) g) u (negsuc 0 *ℤ v) first (has_multiple point (negsuc 0) g v second))
 
 -- ---- tests of forms
 

@@ -106,7 +106,8 @@ values_are point [] [] have = refl
 values_are point [] (v ∷ values) have = absurd have
 values_are point (f ∷ forms) [] have = absurd have
 values_are point (f ∷ forms) (v ∷ values) have =
-    ap (λ (z : ℤ). z ∷ map (λ (f : Form). value_at f point) forms) (has_here point f v have.0) ∙ ap (λ (vs : List ℤ). v ∷ vs) (values_are point forms values have.1)
+    ap (λ (z : ℤ). z ∷ map (λ (f : Form). value_at f point) forms) (has_here point f v have.0)
+        ∙ ap (λ (vs : List ℤ). v ∷ vs) (values_are point forms values have.1)
 
 -- ---- the variables of the start
 

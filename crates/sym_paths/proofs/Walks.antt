@@ -34,12 +34,14 @@ module _ {A : Type 0} where
   some_changed P Q (Stops l ∷ w) f h = tt
 
 module _ {A B : Type 0} (k : A → State → Walk B) where
-  pub onward_each : (P : Path A → Type 0) (Q : Path B → Type 0) (w : Walk A) → ((p : Path A) → P p → EachArrives Q (k p.value p.state)) → EachArrives P w → EachArrives Q (onward w k)
+  pub onward_each : (P : Path A → Type 0) (Q : Path B → Type 0) (w : Walk A) → ((p : Path A) → P p → EachArrives Q (k p.value p.state)) → EachArrives P w
+      → EachArrives Q (onward w k)
   onward_each P Q [] f h = tt
   onward_each P Q (Arrives p ∷ w) f h = each_append Q (k p.value p.state) (onward w k) (f p h.0) (onward_each P Q w f h.1)
   onward_each P Q (Stops l ∷ w) f h = onward_each P Q w f h
 
-  pub onward_some : (P : Path A → Type 0) (Q : Path B → Type 0) (w : Walk A) → ((p : Path A) → P p → SomeArrives Q (k p.value p.state)) → SomeArrives P w → SomeArrives Q (onward w k)
+  pub onward_some : (P : Path A → Type 0) (Q : Path B → Type 0) (w : Walk A) → ((p : Path A) → P p → SomeArrives Q (k p.value p.state)) → SomeArrives P w
+      → SomeArrives Q (onward w k)
   onward_some P Q [] f h = absurd h
   onward_some P Q (Arrives p ∷ w) f (inl h) = some_left Q (k p.value p.state) (onward w k) (f p h)
   onward_some P Q (Arrives p ∷ w) f (inr h) = some_right Q (k p.value p.state) (onward w k) (onward_some P Q w f h)

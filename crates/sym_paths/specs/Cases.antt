@@ -67,7 +67,8 @@ cases_of graph l = all_completed (collect 1024 (segment_walk graph l))
 
 -- With these numbers for its unknowns the case holds at the values e, and ends at the place l' with the values e'.
 pub record LeadsWith (e : List ℤ) (l' : Place) (e' : List ℤ) (case : Case) (unknowns : List ℤ) : Type 0 where
-  pub columns : All (λ row. length row.coefs ≡ length (e ++ unknowns)) case.rows × All (λ form. length form.coefs ≡ length (e ++ unknowns)) case.after
+  pub columns : All (λ row. length row.coefs ≡ length (e ++ unknowns)) case.rows
+      × All (λ form. length form.coefs ≡ length (e ++ unknowns)) case.after
   pub holds : All (Holds (e ++ unknowns)) case.rows
   pub place : case.to ≡ l'
   pub values : map (λ form. value_at form (e ++ unknowns)) case.after ≡ e'

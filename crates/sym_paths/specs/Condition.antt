@@ -15,7 +15,8 @@ where_true false state = []
 
 -- The walk of a condition over so many parameters, where it is true.
 abbrev pub condition_walk : ℕ → Expression → Walk (Unit {0})
-condition_walk arity e = onward (condition (symbolic (room_for arity) (variables_from (room_for arity) 0 arity) e) (start_state arity)) where_true
+condition_walk arity e = onward (condition (symbolic (room_for arity) (variables_from (room_for arity) 0 arity) e)
+    (start_state arity)) where_true
 
 -- The rows of a complete case, over the columns that are in use.
 abbrev pub completed_rows : Path (Unit {0}) → List Row

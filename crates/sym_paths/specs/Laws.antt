@@ -19,13 +19,17 @@ use Rattle.sym_paths.specs.Condition.{condition_cases, HoldAt}
 -- Where the variables' forms have the values of an environment, the walk of an expression splits the points of each state,
 -- and each form that it arrives at has the expression's value.
 abbrev pub LawOfExpressions : Type 0
-LawOfExpressions = (room : ℕ) (forms : List Form) (env : List ℤ) (n : ℕ) (e : Expression) (state : State) → CanEvaluate n e
-    → Splits state (λ point. HaveValues point forms env) (λ point form. HasValue point form (eval e env)) (symbolic room forms e state)
+LawOfExpressions = (room : ℕ) (forms : List Form) (env : List ℤ) (n : ℕ) (e : Expression) (state : State)
+    → CanEvaluate n e
+    → Splits state (λ point. HaveValues point forms env) (λ point form. HasValue point form (eval e env))
+        (symbolic room forms e state)
 
 -- A segment leads from a place with these values to another with those exactly where some case does.
 abbrev pub LawOfCases : Type 0
-LawOfCases = (graph : FlowGraph) → IsFlowGraph graph → (l : Place) → GoesOnAt graph l → (cases : List Case) → cases_of graph l ≡ Ok cases
-    → (e : List ℤ) (l' : Place) (e' : List ℤ) → length e ≡ width_at graph l → IsGraphSegment graph l e l' e' ↔ SomeOf (LeadsTo e l' e') cases
+LawOfCases = (graph : FlowGraph) → IsFlowGraph graph → (l : Place) → GoesOnAt graph l → (cases : List Case)
+    → cases_of graph l ≡ Ok cases
+    → (e : List ℤ) (l' : Place) (e' : List ℤ) → length e ≡ width_at graph l
+        → IsGraphSegment graph l e l' e' ↔ SomeOf (LeadsTo e l' e') cases
 
 -- The inputs meet a condition exactly where the rows of some case hold there.
 abbrev pub LawOfConditions : Type 0

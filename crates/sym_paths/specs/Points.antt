@@ -68,6 +68,8 @@ pub record ReachedFrom {A : Type 0} (point : List ℤ) (G : List ℤ → A → T
 
 -- The walk splits the points of a state: rows are only added; wherever the rows of a path hold its value has G, where P
 -- held before; and from a whole point where P holds the walk arrives by some path, or meets a limit.
-pub record Splits {A : Type 0} (state : State) (P : List ℤ → Type 0) (G : List ℤ → A → Type 0) (walk : Walk A) : Type 0 where
-  pub sound : EachArrives (λ path. (point : List ℤ) → IsPoint point path.state → IsPoint point state × (P point → G point path.value)) walk
+pub record Splits {A : Type 0} (state : State) (P : List ℤ → Type 0) (G : List ℤ → A → Type 0)
+    (walk : Walk A) : Type 0 where
+  pub sound : EachArrives (λ path. (point : List ℤ) → IsPoint point path.state
+      → IsPoint point state × (P point → G point path.value)) walk
   pub complete : (point : List ℤ) → IsWholePoint point state → P point → SomeArrives (ReachedFrom point G) walk

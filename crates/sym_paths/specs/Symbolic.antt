@@ -141,12 +141,14 @@ module _ (room : ℕ) where
   divided_by false divisor dividend state = stops limit.ManyUnknowns
   divided_by true divisor dividend state =
       onward (made (multiple_of divisor (unknown state)) (with_column state)) (λ whole next.
-        onward (made (difference_of dividend whole) next) (λ rest last. two_ways divisor dividend (unknown state) rest last))
+        onward (made (difference_of dividend whole) next)
+            (λ rest last. two_ways divisor dividend (unknown state) rest last))
 
   -- The quotient of a form, as it is constant or not and the divisor is 1 or not.
   abbrev pub parted_by : Bool → Bool → ℤ → Form → State → Walk Parts
   parted_by true one divisor form state =
-      gives (parts (constant_form room (int_div form.constant divisor)) (constant_form room (int_rem form.constant divisor))) state
+      gives (parts (constant_form room (int_div form.constant divisor))
+          (constant_form room (int_rem form.constant divisor))) state
   parted_by false true divisor form state = gives (parts form (constant_form room (pos 0))) state
   parted_by false false divisor form state = divided_by (nat_lt state.columns room) divisor form state
 
@@ -186,4 +188,5 @@ module _ (room : ℕ) where
   symbolic forms (Var x) state = gives (slice_index_or forms x (constant_form room (pos 0))) state
   symbolic forms (Un op e) state = unary_walk op (symbolic forms e) state
   symbolic forms (Bin op e f) state = binary_walk op (symbolic forms e) (symbolic forms f) (divisor_of f) state
-  symbolic forms (Cond c e f) state = onward (condition (symbolic forms c) state) (chosen (symbolic forms e) (symbolic forms f))
+  symbolic forms (Cond c e f) state = onward (condition (symbolic forms c) state)
+      (chosen (symbolic forms e) (symbolic forms f))
