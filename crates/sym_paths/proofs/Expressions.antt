@@ -15,7 +15,7 @@ use Rattle.lin_terms.specs.Form.{value_at, sum_of, multiple_of, difference_of, p
 use Rattle.lin_terms.proofs.Laws.{value_at-sum_of, value_at-multiple_of, value_at-constant}
 use Rattle.sym_paths.specs.Walk.{State, Walk, gives, stops, onward}
 use Rattle.sym_paths.specs.Rows.{split, made}
-use Rattle.sym_paths.specs.Symbolic.{nonzero_signs, zero_signs, negative_signs, not_positive_signs, positive_signs, not_negative_signs, tested_by, tested, negated_by, negated, Parts, divisor_of, Part, both, product_made, condition, chosen, test_form, as_value, compared, parted, unary_walk, binary_walk, symbolic}
+use Rattle.sym_paths.specs.Symbolic.{nonzero_signs, zero_signs, negative_signs, not_positive_signs, positive_signs, not_negative_signs, tested_by, tested, negated_by, negated, Parts, divisor_of, Part, both, product_made, condition, chosen, test_form, as_value, compared, parted, unary_made, binary_made, quotient_made, rest_made, test_made, binary_walk, symbolic}
 use Rattle.sym_paths.specs.Points.{HasValue, HaveValues, Extends, Splits}
 use Rattle.sym_paths.specs.Laws.{LawOfExpressions}
 use Rattle.sym_paths.proofs.Walks.{changed, gives_splits, stops_splits, onward_splits}
@@ -144,18 +144,20 @@ module _ (room : ℕ) (P : List ℤ → Type 0) (stable : IsStable P) where
           (second next) (λ point p. p.0) (λ g point longer x p has. (has_longer point longer f u x p.1, has)) (means' next))
         (λ g last. makes f g last))
 
-  unary_means : (op : UnOp) (part : Part) (v : ℤ) → Means part v → Means (unary_walk room op part) (unary_value op v)
-  unary_means Plus part v means state = means state
-  unary_means Minus part v means state =
-      onward_splits (λ point d. HasValue point d (neg_ℤ v)) (λ f next. made (multiple_of (negsuc 0) f) next)
-      state P (λ point f. HasValue point f v) (part state) (means state)
-      (λ f next. made_splits next (λ point. HasValue point f v) (λ point d. HasValue point d (neg_ℤ v)) (multiple_of (negsuc 0) f)
-        (λ point has. has_same point (multiple_of (negsuc 0) f) _ _ (opposite v) (has_multiple point (negsuc 0) f v has)))
-  unary_means Not part v means state =
-      onward_splits (λ point d. HasValue point d (test_value (not (is_nonzero v)))) (λ f next. as_value room (negated f next))
-      state P (λ point f. HasValue point f v) (part state) (means state)
-      (λ f next. as_value_splits room next (λ point. HasValue point f v) (not (is_nonzero v)) (negated f next)
-        (negated_tests (λ point. HasValue point f v) f v (λ point has. has) next (is_constant f) refl))
+  unary_splits : (op : UnOp) (f : Form) (v : ℤ) (state : State)
+      → Splits state (λ point. HasValue point f v) (λ point d. HasValue point d (unary_value op v)) (unary_made room op f state)
+  unary_splits Plus f v state = gives_splits state (λ point. HasValue point f v) (λ point d. HasValue point d v) f (λ point has. has)
+  unary_splits Minus f v state =
+      made_splits state (λ point. HasValue point f v) (λ point d. HasValue point d (neg_ℤ v)) (multiple_of (negsuc 0) f)
+      (λ point has. has_same point (multiple_of (negsuc 0) f) _ _ (opposite v) (has_multiple point (negsuc 0) f v has))
+  unary_splits Not f v state =
+      as_value_splits room state (λ point. HasValue point f v) (not (is_nonzero v)) (negated f state)
+      (negated_tests (λ point. HasValue point f v) f v (λ point has. has) state (is_constant f) refl)
+
+  unary_means : (op : UnOp) (part : Part) (v : ℤ) → Means part v → Means (λ state. onward (part state) (unary_made room op)) (unary_value op v)
+  unary_means op part v means state =
+      onward_splits (λ point d. HasValue point d (unary_value op v)) (unary_made room op) state P (λ point f. HasValue point f v) (part state) (means state)
+      (λ f next. unary_splits op f v next)
 
   comparison_means : (options : List (Sign × Bool)) (test : ℤ → Bool) → Covers options test → (first second : Part) (u v : ℤ) (answer : Bool)
       → test (u -ℤ v) ≡ answer → Means first u → Means second v → Means (both first second (compared room options)) (test_value answer)
@@ -180,7 +182,7 @@ module _ (room : ℕ) (P : List ℤ → Type 0) (stable : IsStable P) where
       state P (λ point answer. P point × (answer ≡ is_nonzero t)) (condition test state) (condition_splits test t means state)
       (chosen_splits first second (is_nonzero t) u v means' means'')
 
-  test_means : (part : Part) (v : ℤ) → Means part v → Means (λ state. as_value room (condition part state)) (test_value (is_nonzero v))
+  test_means : (part : Part) (v : ℤ) → Means part v → Means (test_made room part) (test_value (is_nonzero v))
   test_means part v means state =
       as_value_splits room state P (is_nonzero v) (condition part state)
       (changed state P P (λ point answer. P point × (answer ≡ is_nonzero v)) (λ point answer. answer ≡ is_nonzero v) (condition part state)
@@ -258,12 +260,12 @@ module _ (room : ℕ) (P : List ℤ → Type 0) (stable : IsStable P) where
   binary_means And p q f env u divisor means means' =
       same_means (binary_walk room And p q (divisor_of f)) (cond (is_nonzero u) (test_value (is_nonzero (eval f env))) (test_value false))
       (test_value (is_nonzero u && is_nonzero (eval f env))) (and_is (is_nonzero u) (is_nonzero (eval f env)))
-      (choice_means p (λ next. as_value room (condition q next)) (gives (test_form room false)) u (test_value (is_nonzero (eval f env))) (test_value false)
+      (choice_means p (test_made room q) (gives (test_form room false)) u (test_value (is_nonzero (eval f env))) (test_value false)
         means (test_means q (eval f env) means') (constant_means false))
   binary_means Or p q f env u divisor means means' =
       same_means (binary_walk room Or p q (divisor_of f)) (cond (is_nonzero u) (test_value true) (test_value (is_nonzero (eval f env))))
       (test_value (is_nonzero u || is_nonzero (eval f env))) (or_is (is_nonzero u) (is_nonzero (eval f env)))
-      (choice_means p (gives (test_form room true)) (λ next. as_value room (condition q next)) u (test_value true) (test_value (is_nonzero (eval f env)))
+      (choice_means p (gives (test_form room true)) (test_made room q) u (test_value true) (test_value (is_nonzero (eval f env)))
         means (constant_means true) (test_means q (eval f env) means'))
 
   -- the walk of an expression, where the variables' forms have the values of an environment

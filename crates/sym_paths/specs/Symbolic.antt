@@ -1,5 +1,5 @@
--- The values of an expression over forms, case by case: one function a row of the table, each with its cases in the order
--- of the walk. All forms and rows of a walk have `room` columns, those of the unknowns that may still come among them.
+-- The values of an expression over forms, case by case: one function a row of the table, each with its cases in the
+-- order of the walk. All forms and rows of a walk have `room` columns, with those of unknowns that may still come.
 use Rattle.std.specs.Prelude.{ℕ, suc, nat_lt, ◌==◌, ℤ, pos, negsuc, neg_ℤ, ◌+ℤ◌, int_div, int_rem, unsigned_abs, Bool, true, false, not, List, [], ◌∷◌, slice_index_or, ◌++◌, Option, Some, None}
 use Rattle.c_ast.specs.declared.expr.UnOp.{UnOp}
 use Rattle.c_ast.specs.declared.expr.UnOp.TheVariants.{Plus, Minus, Not}
@@ -156,37 +156,51 @@ module _ (room : ℕ) where
   abbrev pub parted : ℤ → Form → State → Walk Parts
   parted divisor form state = parted_by (is_constant form) (unsigned_abs divisor == 1) divisor form state
 
-  -- A unary operator.
-  abbrev pub unary_walk : UnOp → Part → Part
-  unary_walk Plus part state = part state
-  unary_walk Minus part state = onward (part state) (λ f next. made (multiple_of (negsuc 0) f) next)
-  unary_walk Not part state = onward (part state) (λ f next. as_value (negated f next))
+  -- What a unary operator makes of a form.
+  abbrev pub unary_made : UnOp → Form → State → Walk Form
+  unary_made Plus f state = gives f state
+  unary_made Minus f state = made (multiple_of (negsuc 0) f) state
+  unary_made Not f state = as_value (negated f state)
+
+  -- What an operator with two operands makes of their forms: of those that always ask both, but for divisions.
+  abbrev pub binary_made : BinOp → Form → Form → State → Walk Form
+  binary_made Mul f g state = product_made (product_of f g) state
+  binary_made Add f g state = made (sum_of f g) state
+  binary_made Sub f g state = made (difference_of f g) state
+  binary_made Less f g state = compared negative_signs f g state
+  binary_made LessEq f g state = compared not_positive_signs f g state
+  binary_made Greater f g state = compared positive_signs f g state
+  binary_made GreaterEq f g state = compared not_negative_signs f g state
+  binary_made Equal f g state = compared zero_signs f g state
+  binary_made NotEqual f g state = compared nonzero_signs f g state
+  binary_made _ f g state = []
+
+  -- The quotient of a form, and what it leaves.
+  abbrev pub quotient_made : ℤ → Form → State → Walk Form
+  quotient_made divisor f state = onward (parted divisor f state) (λ both last. gives both.quotient last)
+
+  abbrev pub rest_made : ℤ → Form → State → Walk Form
+  rest_made divisor f state = onward (parted divisor f state) (λ both last. gives both.rest last)
+
+  -- A test of a part of an expression, as a value.
+  abbrev pub test_made : Part → Part
+  test_made part state = as_value (condition part state)
 
   -- A binary operator; the right part of a division is the divisor.
   abbrev pub binary_walk : BinOp → Part → Part → ℤ → Part
-  binary_walk Mul first second divisor state = both first second (λ f g next. product_made (product_of f g) next) state
-  binary_walk Div first second divisor state =
-      onward (first state) (λ f next. onward (parted divisor f next) (λ both last. gives both.quotient last))
-  binary_walk Rem first second divisor state =
-      onward (first state) (λ f next. onward (parted divisor f next) (λ both last. gives both.rest last))
-  binary_walk Add first second divisor state = both first second (λ f g next. made (sum_of f g) next) state
-  binary_walk Sub first second divisor state = both first second (λ f g next. made (difference_of f g) next) state
-  binary_walk Less first second divisor state = both first second (compared negative_signs) state
-  binary_walk LessEq first second divisor state = both first second (compared not_positive_signs) state
-  binary_walk Greater first second divisor state = both first second (compared positive_signs) state
-  binary_walk GreaterEq first second divisor state = both first second (compared not_negative_signs) state
-  binary_walk Equal first second divisor state = both first second (compared zero_signs) state
-  binary_walk NotEqual first second divisor state = both first second (compared nonzero_signs) state
+  binary_walk Div first second divisor state = onward (first state) (quotient_made divisor)
+  binary_walk Rem first second divisor state = onward (first state) (rest_made divisor)
   binary_walk And first second divisor state =
-      onward (condition first state) (chosen (λ next. as_value (condition second next)) (gives (test_form false)))
+      onward (condition first state) (chosen (test_made second) (gives (test_form false)))
   binary_walk Or first second divisor state =
-      onward (condition first state) (chosen (gives (test_form true)) (λ next. as_value (condition second next)))
+      onward (condition first state) (chosen (gives (test_form true)) (test_made second))
+  binary_walk op first second divisor state = both first second (binary_made op) state
 
   -- The values of an expression over the variables' forms, each with the rows on the way there.
   abbrev pub symbolic : List Form → Expression → Part
   symbolic forms (Num z) state = made (constant_form room z) state
   symbolic forms (Var x) state = gives (slice_index_or forms x (constant_form room (pos 0))) state
-  symbolic forms (Un op e) state = unary_walk op (symbolic forms e) state
+  symbolic forms (Un op e) state = onward (symbolic forms e state) (unary_made op)
   symbolic forms (Bin op e f) state = binary_walk op (symbolic forms e) (symbolic forms f) (divisor_of f) state
   symbolic forms (Cond c e f) state = onward (condition (symbolic forms c) state)
       (chosen (symbolic forms e) (symbolic forms f))
