@@ -11,3 +11,6 @@ pub mod Cases
 pub mod Conditions
 pub mod Samples
 pub mod Laws
+pub mod Onward
+pub mod Stepping
+pub mod Searching

@@ -2,6 +2,7 @@ pub mod Walk
 pub mod Rows
 pub mod Symbolic
 pub mod Nodes
+pub mod Machine
 pub mod Points
 pub mod Cases
 pub mod Condition
