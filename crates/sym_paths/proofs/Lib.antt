@@ -14,3 +14,4 @@ pub mod Laws
 pub mod Onward
 pub mod Stepping
 pub mod Searching
+pub mod Falling

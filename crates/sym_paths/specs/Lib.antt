@@ -3,6 +3,7 @@ pub mod Rows
 pub mod Symbolic
 pub mod Nodes
 pub mod Machine
+pub mod Heights
 pub mod Points
 pub mod Cases
 pub mod Condition
