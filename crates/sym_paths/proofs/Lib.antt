@@ -15,3 +15,4 @@ pub mod Onward
 pub mod Stepping
 pub mod Searching
 pub mod Falling
+pub mod Prefix
