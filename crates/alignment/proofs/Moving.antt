@@ -42,7 +42,8 @@ some_side_moves alignment l r named away = some_moves (counts_of alignment) l r 
 
 -- ---- segments that agree
 
-module _ (Segment Other : Place → List ℤ → Place → List ℤ → Type 0) (agree : (l : Place) (e : List ℤ) (l' : Place) (e' : List ℤ) → Segment l e l' e' → Other l e l' e') where
+module _ (Segment Other : Place → List ℤ → Place → List ℤ → Type 0)
+    (agree : (l : Place) (e : List ℤ) (l' : Place) (e' : List ℤ) → Segment l e l' e' → Other l e l' e') where
   goes_on_or_stops : (again : Bool) (A B C : Type 0) → (A → B) → GoesOnOrStops again A C → GoesOnOrStops again B C
   goes_on_or_stops true A B C on is = on is
   goes_on_or_stops false A B C on is = is
@@ -105,7 +106,8 @@ module _ (Segment : Place → List ℤ → Place → List ℤ → Type 0) (once 
       let at_place : GoesOnOrStops (is_same_place first.0 (place.Mark k)) (Takes Segment n first.0 second.1 b d) ((b ≡ first.0) × (d ≡ second.1)) =
       subst (λ (z : Place). GoesOnOrStops (is_same_place z (place.Mark k)) (Takes Segment n z second.1 b d) ((b ≡ z) × (d ≡ second.1))) (sym same.0) second.3 in
       let there : GoesOnOrStops (is_same_place first.0 (place.Mark k)) (Takes Segment n first.0 first.1 b d) ((b ≡ first.0) × (d ≡ first.1)) =
-      subst (λ (z : List ℤ). GoesOnOrStops (is_same_place first.0 (place.Mark k)) (Takes Segment n first.0 z b d) ((b ≡ first.0) × (d ≡ z))) (sym same.1) at_place in
+      subst (λ (z : List ℤ). GoesOnOrStops (is_same_place first.0 (place.Mark k)) (Takes Segment n first.0 z b d) ((b ≡ first.0) × (d ≡ z)))
+      (sym same.1) at_place in
       stops_once (is_same_place first.0 (place.Mark k)) first.0 a b first.1 c d (Takes Segment n first.0 first.1 a c) (Takes Segment n first.0 first.1 b d)
       (λ one other. takes_once n first.0 first.1 a b c d one other) first.3 there
 
@@ -175,7 +177,8 @@ goes_on_at_its_mark f formed n k e values l' e' segment =
 
 -- ---- the entries
 
-module _ (Segment : Place → List ℤ → Place → List ℤ → Type 0) (no_entry : (l : Place) (e : List ℤ) (l' : Place) (e' : List ℤ) → Segment l e l' e' → ¬ (l' ≡ place.Entry)) where
+module _ (Segment : Place → List ℤ → Place → List ℤ → Type 0)
+    (no_entry : (l : Place) (e : List ℤ) (l' : Place) (e' : List ℤ) → Segment l e l' e' → ¬ (l' ≡ place.Entry)) where
   leaves_entry : (again : Bool) (l l' : Place) (e e' : List ℤ) (A : Type 0) → ¬ (l ≡ place.Entry) → (A → ¬ (l' ≡ place.Entry))
       → GoesOnOrStops again A ((l' ≡ l) × (e' ≡ e)) → ¬ (l' ≡ place.Entry)
   leaves_entry true l l' e e' A away on is same = on is same
@@ -195,11 +198,14 @@ module _ (Segment : Place → List ℤ → Place → List ℤ → Type 0) (no_en
 
 pub entries_are_not_met : EntriesAreNotMet
 entries_are_not_met f g alignment place.Entry place.Entry d e l' r' d' e' moves same =
-    takes_no_entry (IsSegment f) (entry_is_not_met f) (counts_at (counts_of alignment) place.Entry place.Entry).0 place.Entry d l' d' moves.first (λ at. omega arith) same.0
+    takes_no_entry (IsSegment f) (entry_is_not_met f) (counts_at (counts_of alignment) place.Entry place.Entry).0 place.Entry d l' d' moves.first
+    (λ at. omega arith) same.0
 entries_are_not_met f g alignment place.Entry (place.Mark k) d e l' r' d' e' moves same =
-    takes_no_entry (IsSegment g) (entry_is_not_met g) (counts_at (counts_of alignment) place.Entry (place.Mark k)).1 (place.Mark k) e r' e' moves.second (λ at. cc) same.1
+    takes_no_entry (IsSegment g) (entry_is_not_met g) (counts_at (counts_of alignment) place.Entry (place.Mark k)).1 (place.Mark k) e r' e' moves.second
+    (λ at. cc) same.1
 entries_are_not_met f g alignment place.Entry place.Exit d e l' r' d' e' moves same =
-    takes_no_entry (IsSegment g) (entry_is_not_met g) (counts_at (counts_of alignment) place.Entry place.Exit).1 place.Exit e r' e' moves.second (λ at. cc) same.1
+    takes_no_entry (IsSegment g) (entry_is_not_met g) (counts_at (counts_of alignment) place.Entry place.Exit).1 place.Exit e r' e' moves.second
+    (λ at. cc) same.1
 entries_are_not_met f g alignment (place.Mark k) r d e l' r' d' e' moves same =
     takes_no_entry (IsSegment f) (entry_is_not_met f) (counts_at (counts_of alignment) (place.Mark k) r).0 (place.Mark k) d l' d' moves.first (λ at. cc) same.0
 entries_are_not_met f g alignment place.Exit r d e l' r' d' e' moves same =

@@ -42,8 +42,10 @@ stops e = (place.Mark 8, e, (refl, refl), (refl, refl))
 -- It does not come to the place behind that.
 stays_there : (e : List ℤ) → ¬ Takes Segment 3 (place.Mark 7) e place.Exit e
 stays_there e takes =
-    let stopped : GoesOnOrStops (is_same_place (place.Mark 8) (place.Mark 7)) (Takes Segment 2 (place.Mark 8) takes.1 place.Exit e) ((place.Exit ≡ place.Mark 8) × (e ≡ takes.1)) =
-    subst (λ (z : Place). GoesOnOrStops (is_same_place z (place.Mark 7)) (Takes Segment 2 z takes.1 place.Exit e) ((place.Exit ≡ z) × (e ≡ takes.1))) takes.2.0 takes.3 in
+    let stopped : GoesOnOrStops (is_same_place (place.Mark 8) (place.Mark 7)) (Takes Segment 2 (place.Mark 8) takes.1 place.Exit e)
+    ((place.Exit ≡ place.Mark 8) × (e ≡ takes.1)) =
+    subst (λ (z : Place). GoesOnOrStops (is_same_place z (place.Mark 7)) (Takes Segment 2 z takes.1 place.Exit e) ((place.Exit ≡ z) × (e ≡ takes.1)))
+    takes.2.0 takes.3 in
     let out = stopped.0 in cc
 
 -- A segment from the entry does not stop it.

@@ -1,5 +1,6 @@
 -- A point of the rows without a column gives a point of the rows with it.
-use Rattle.std.proofs.Common.{◌≡◌, ℕ, ◌<◌, Bool, true, false, cond, List, [], ◌∷◌, map, arith, refl, sym, ◌∙◌, ap, subst, length, get_or, set, Option, Some, None}
+use Rattle.std.proofs.Common.{◌≡◌, ℕ, ◌<◌, Bool, true, false, cond, List, [], ◌∷◌}
+use Rattle.std.proofs.Common.{map, arith, refl, sym, ◌∙◌, ap, subst, length, get_or, set, Option, Some, None}
 use Rattle.std.specs.Prelude.{ℤ, pos, neg_ℤ, ◌+ℤ◌, ◌*ℤ◌, ◌-ℤ◌, ◌≤ℤ◌, ◌<ℤ◌}
 use Rattle.std.specs.List.{AllByRecursion}
 use Rattle.std.proofs.lemmas.Int.{ints}
@@ -9,9 +10,11 @@ use Rattle.elimination.proofs.Ring.{as_dif, same_dif, difs, dif_pos}
 use Rattle.elimination.specs.Combination.{Combination, entry, is_zero, is_positive, is_negative, sign, size, combined}
 use Rattle.elimination.specs.Column.{pivot_of, reduced, paired, without, lower_bounds, upper_bounds, pairs, projected_by, projected}
 use Rattle.elimination.proofs.Lists.{all_by, all_weaker, all_front, all_back, all_of_map}
-use Rattle.elimination.proofs.Points.{value, MeetsEach, value-moved, value-combined, sign-mul, size_positive, zero_is, size_of_positive, size_of_negative, positive_not_zero, negative_not_zero, allows_multiple}
+use Rattle.elimination.proofs.Points.{value, MeetsEach, value-moved, value-combined, sign-mul, size_positive, zero_is, size_of_positive}
+use Rattle.elimination.proofs.Points.{size_of_negative, positive_not_zero, negative_not_zero, allows_multiple}
 use Rattle.elimination.proofs.Best.{IsLeast, best}
-use Rattle.elimination.proofs.Pivots.{Picked, none_picked, picked_all, pivot_is, all_kinds, all_without, IsLowerBound, IsUpperBound, all_lower_bounds, all_upper_bounds, all_pairs}
+use Rattle.elimination.proofs.Pivots.{Picked, none_picked, picked_all, pivot_is}
+use Rattle.elimination.proofs.Pivots.{all_kinds, all_without, IsLowerBound, IsUpperBound, all_lower_bounds, all_upper_bounds, all_pairs}
 
 -- ---- polynomials: a, e, p, n are entries in the column, v and w values of rows, x the old number, y the new one
 

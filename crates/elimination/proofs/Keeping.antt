@@ -9,7 +9,8 @@ use Rattle.elimination.specs.declared.answer.EarlyEnd.{EarlyEnd}
 use Rattle.elimination.specs.declared.answer.EarlyEnd.TheVariants.{Contradiction, AtLimit}
 use Rattle.elimination.specs.Combination.{Combination, entry, is_zero, is_positive, is_negative, sign, size, combined}
 use Rattle.elimination.specs.Column.{is_pivot, behind, pivot_of, reduced, paired, without, lower_bounds, upper_bounds, pairs, projected_by, projected}
-use Rattle.elimination.specs.Joining.{numbers_of, primitive, is_wide, has_no_variable, allows, refuting_multipliers, judged, is_parallel, tighter, placed, added, counted, admitted, joined, joined_each, list_of}
+use Rattle.elimination.specs.Joining.{numbers_of, primitive, is_wide, has_no_variable, allows, refuting_multipliers, judged, is_parallel, tighter}
+use Rattle.elimination.specs.Joining.{placed, added, counted, admitted, joined, joined_each, list_of}
 use Rattle.elimination.specs.Eliminated.{eliminate}
 use Rattle.elimination.proofs.Lists.{all_by, all_weaker, all_append, all_map, all_filter}
 use Rattle.elimination.proofs.Pivots.{Picked, pivot_parts, none_picked, IsLowerBound, IsUpperBound, all_lower_bounds, all_upper_bounds}

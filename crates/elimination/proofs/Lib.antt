@@ -18,6 +18,7 @@ pub mod Merging
 pub mod Tables
 pub mod Gcds
 pub mod Places
+pub mod Located
 pub mod Sizes
 pub mod Stepping
 pub mod Picking

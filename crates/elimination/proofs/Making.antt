@@ -1,5 +1,6 @@
 -- Each row is what its multipliers make of the given rows; so the multipliers of a contradiction refute these.
-use Rattle.std.proofs.Common.{◌≡◌, ℕ, zero, suc, Bool, true, false, List, [], ◌∷◌, ◌++◌, map, arith, refl, sym, ◌∙◌, ap, subst, length, length-append, append_assoc, get_or, replicate, Result, Ok, Err}
+use Rattle.std.proofs.Common.{◌≡◌, ℕ, zero, suc, Bool, true, false, List, [], ◌∷◌, ◌++◌, map, arith, refl, sym, ◌∙◌, ap, subst, length, length-append}
+use Rattle.std.proofs.Common.{append_assoc, get_or, replicate, Result, Ok, Err}
 use Prim.Native.Nat.{◌∣◌}
 use Rattle.std.specs.Prelude.{unsigned_abs, ℤ, pos, negsuc, neg_ℤ, ◌+ℤ◌, ◌*ℤ◌, ◌-ℤ◌, ◌≤ℤ◌, All}
 use Rattle.std.specs.Bool.{OnFalse}

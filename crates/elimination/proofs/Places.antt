@@ -1,5 +1,6 @@
 -- Where a row is placed, and what a row that joins a list does.
-use Rattle.std.proofs.Common.{◌≡◌, ◌↔◌, ℕ, suc, ◌<◌, ◌^◌, Bool, true, false, cond, not, List, [], ◌∷◌, ◌++◌, arith, refl, sym, ◌∙◌, ap, get_or, set, Option, Some, None, Err, IsTrue}
+use Rattle.std.proofs.Common.{◌≡◌, ◌↔◌, ℕ, suc, ◌<◌, ◌^◌, Bool, true, false, cond, not, List, [], ◌∷◌, ◌++◌, arith, refl, sym, ◌∙◌, ap, get_or, set}
+use Rattle.std.proofs.Common.{Option, Some, None, Err, IsTrue}
 use Rattle.std.specs.Prelude.{ℤ, unsigned_abs, int_lt, nat_le, position}
 use Rattle.std.specs.List.{AllByRecursion}
 use Rattle.std.proofs.lemmas.List.{get_or_default, set-get_or}

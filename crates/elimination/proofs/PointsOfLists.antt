@@ -1,5 +1,6 @@
 -- A point of a list meets the rows that joined it.
-use Rattle.std.proofs.Common.{◌≡◌, ℕ, zero, suc, ◌+◌, ◌<◌, ◌≤◌, Bool, true, false, cond, not, List, [], ◌∷◌, ◌++◌, arith, refl, sym, ◌∙◌, subst, length, length-set, set, Result, Ok, Err}
+use Rattle.std.proofs.Common.{◌≡◌, ℕ, zero, suc, ◌+◌, ◌<◌, ◌≤◌, Bool, true, false, cond, not, List, [], ◌∷◌, ◌++◌, arith, refl, sym, ◌∙◌, subst}
+use Rattle.std.proofs.Common.{length, length-set, set, Result, Ok, Err}
 use Rattle.std.specs.Prelude.{ℤ, pos, negsuc, ◌+ℤ◌, ◌*ℤ◌, ◌-ℤ◌, ◌≤ℤ◌, ◌<ℤ◌, int_lt, nat_le}
 use Rattle.std.specs.List.{AllByRecursion}
 use Rattle.std.specs.Ordering.{int_eq}
@@ -16,7 +17,8 @@ use Rattle.elimination.specs.declared.answer.EarlyEnd.TheVariants.{Contradiction
 use Rattle.elimination.specs.declared.answer.Limit.TheVariants.{WideRow, ManyRows}
 use Rattle.elimination.specs.Combination.{Combination, is_zero}
 use Rattle.elimination.specs.Column.{projected}
-use Rattle.elimination.specs.Joining.{numbers_of, primitive, is_wide, has_no_variable, allows, refuting_multipliers, judged, is_parallel, tighter, placed, added, counted, admitted, joined, joined_each, list_of}
+use Rattle.elimination.specs.Joining.{numbers_of, primitive, is_wide, has_no_variable, allows, refuting_multipliers, judged, is_parallel, tighter}
+use Rattle.elimination.specs.Joining.{placed, added, counted, admitted, joined, joined_each, list_of}
 use Rattle.elimination.specs.Eliminated.{eliminate}
 use Rattle.elimination.proofs.Lists.{all_front, all_back}
 use Rattle.elimination.proofs.Points.{MeetsEach, zero_is}
@@ -43,7 +45,7 @@ left_out numbers d row not_negative no_variable allowed =
 
 -- ---- parallel rows
 
-same_coefs : (xs ys : List ℤ) → pointwise int_eq xs ys ≡ true → xs ≡ ys
+pub same_coefs : (xs ys : List ℤ) → pointwise int_eq xs ys ≡ true → xs ≡ ys
 same_coefs xs ys e = (pointwise_decides Decides-int_eq xs ys).0 e
 
 less_step : (s a b d : ℤ) → (s +ℤ (a *ℤ d)) +ℤ ((b -ℤ a) *ℤ d) ≡ s +ℤ (b *ℤ d)

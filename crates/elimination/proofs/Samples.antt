@@ -1,5 +1,5 @@
 -- The definitions on small lists of rows.
-use Rattle.std.proofs.Common.{◌≡◌, ◌-◌, ◌^◌, true, false, List, [], ◌∷◌, pos, negsuc, refl, Ok, Err}
+use Rattle.std.proofs.Common.{◌≡◌, ◌-◌, ◌^◌, true, false, List, [], ◌∷◌, pos, negsuc, refl, Some, None, Ok, Err}
 use Rattle.std.specs.Prelude.{ℤ}
 use Rattle.lin_terms.specs.declared.row.Row.{Row}
 use Rattle.lin_terms.specs.Divisor.{gcd_steps}
@@ -8,6 +8,7 @@ use Rattle.elimination.specs.declared.answer.Limit.TheVariants.{WideRow, ManyRow
 use Rattle.elimination.specs.Combination.{Combination}
 use Rattle.elimination.specs.Column.{projected}
 use Rattle.elimination.specs.Joining.{primitive, list_of}
+use Rattle.elimination.specs.Indexed.{has_coefs, noted}
 use Rattle.elimination.specs.Eliminated.{initial, eliminated}
 
 -- `coefs · v + constant >= 0`
@@ -157,3 +158,26 @@ first_equality : projected 0 equalities ≡
     ∷ []
 unfolding equalities
 first_equality = refl
+
+-- ---- parallel rows
+
+-- an inequality has its own coefficients, and no others
+own_coefs : has_coefs (pos 1 ∷ negsuc 1 ∷ []) (record { row = at_least (pos 1 ∷ negsuc 1 ∷ []) (pos 7); multipliers = [] }) ≡ true
+own_coefs = refl
+
+other_coefs : has_coefs (pos 1 ∷ pos 2 ∷ []) (record { row = at_least (pos 1 ∷ negsuc 1 ∷ []) (pos 7); multipliers = [] }) ≡ false
+other_coefs = refl
+
+-- an equality has none
+no_coefs : has_coefs (pos 1 ∷ []) (record { row = equal (pos 1 ∷ []) (pos 7); multipliers = [] }) ≡ false
+no_coefs = refl
+
+-- a place in front is not noted, and the first behind is
+in_front : noted (pos 1 ∷ []) 31 (pos 1 ∷ []) None ≡ None
+in_front = refl
+
+first_behind : noted (pos 1 ∷ []) 32 (pos 1 ∷ []) None ≡ Some 32
+first_behind = refl
+
+others_stay : noted (pos 1 ∷ []) 40 (pos 2 ∷ []) (Some 33) ≡ Some 33
+others_stay = refl

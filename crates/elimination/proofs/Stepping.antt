@@ -1,5 +1,6 @@
 -- Rows that join one after the other, and what ends them.
-use Rattle.std.proofs.Common.{◌≡◌, ℕ, zero, suc, ◌<◌, ◌+◌, List, [], ◌∷◌, ◌++◌, refl, sym, ◌∙◌, ap, subst, append_assoc, append-nil, length, get_or, take, drop, drop-cons, Option, Some, None, Result, Ok, Err}
+use Rattle.std.proofs.Common.{◌≡◌, ℕ, zero, suc, ◌<◌, ◌+◌, List, [], ◌∷◌, ◌++◌, refl, sym, ◌∙◌, ap, subst, append_assoc, append-nil, length, get_or}
+use Rattle.std.proofs.Common.{take, drop, drop-cons, Option, Some, None, Result, Ok, Err}
 use Rattle.std.specs.Iterator.{Yields}
 use Rattle.std.proofs.lemmas.Iterator.{YieldsList}
 use Rattle.std.proofs.lemmas.Iterator.Consumers.{YieldsList-turn, YieldsList-so_far, YieldsList-end}
@@ -49,11 +50,11 @@ ends_first next stays first target (AtLimit Memory) e is = tt
 
 module _ (old mid : JoinedRows) (xs : List Combination) (so_far : Joins old xs mid (Ok tt)) where
   -- more rows behind those that have joined
-  joined_behind : (ys : List Combination) → joined_each mid.cap (Ok mid.rows.items) ys ≡ joined_each old.cap (Ok old.rows.items) (xs ++ ys)
+  joined_behind : (ys : List Combination) → joined_each mid.cap (Ok mid.rows) ys ≡ joined_each old.cap (Ok old.rows) (xs ++ ys)
   joined_behind ys =
-      ap (λ cap. joined_each cap (Ok mid.rows.items) ys) so_far.1
+      ap (λ cap. joined_each cap (Ok mid.rows) ys) so_far.1
       ∙ ap (λ t. joined_each old.cap t ys) (sym so_far.0)
-      ∙ sym (joined_append old.cap (Ok old.rows.items) xs ys)
+      ∙ sym (joined_append old.cap (Ok old.rows) xs ys)
 
   pub joins_more : (ys : List Combination) (new : JoinedRows) → Joins mid ys new (Ok tt) → Joins old (xs ++ ys) new (Ok tt)
   joins_more ys new more = (sym (joined_behind ys) ∙ more.0, more.1 ∙ so_far.1)
@@ -62,10 +63,10 @@ module _ (old mid : JoinedRows) (xs : List Combination) (so_far : Joins old xs m
   pub ends_then : (ys zs all : List Combination) (new : JoinedRows) (early : EarlyEnd) → all ≡ (xs ++ ys) ++ zs → Joins mid ys new (Err early)
       → Joins old all new (Err early)
   ends_then ys zs all new early is ends =
-      ends_first (λ before. joined_each old.cap before zs) (λ e. ended_each old.cap e zs) (joined_each mid.cap (Ok mid.rows.items) ys)
-      (joined_each old.cap (Ok old.rows.items) all) early
-      (ap (λ t. joined_each old.cap t zs) (joined_behind ys) ∙ sym (joined_append old.cap (Ok old.rows.items) (xs ++ ys) zs)
-      ∙ ap (λ t. joined_each old.cap (Ok old.rows.items) t) (sym is)) ends
+      ends_first (λ before. joined_each old.cap before zs) (λ e. ended_each old.cap e zs) (joined_each mid.cap (Ok mid.rows) ys)
+      (joined_each old.cap (Ok old.rows) all) early
+      (ap (λ t. joined_each old.cap t zs) (joined_behind ys) ∙ sym (joined_append old.cap (Ok old.rows) (xs ++ ys) zs)
+      ∙ ap (λ t. joined_each old.cap (Ok old.rows) t) (sym is)) ends
 
   -- whatever comes of the rows that come next
   pub joins_on : (ys : List Combination) (new : JoinedRows) (result : Result (Unit {0}) EarlyEnd) → Joins mid ys new result → Joins old (xs ++ ys) new result

@@ -1,6 +1,7 @@
 pub mod Combination
 pub mod Column
 pub mod Joining
+pub mod Indexed
 pub mod Eliminated
 pub mod Made
 pub mod Laws

@@ -19,12 +19,12 @@ EndsEarly wanted (AtLimit Memory) = Unit {0}
 
 -- The call leaves the list that is wanted, under the same cap, or ends early as is wanted.
 abbrev pub Leaves : JoinedRows → Result (List Combination) EarlyEnd → JoinedRows → Result (Unit {0}) EarlyEnd → Type 0
-Leaves old wanted new (Ok done) = (wanted ≡ Ok new.rows.items) × (new.cap ≡ old.cap)
+Leaves old wanted new (Ok done) = (wanted ≡ Ok new.rows) × (new.cap ≡ old.cap)
 Leaves old wanted new (Err early) = EndsEarly wanted early
 
 -- The rows join the old list in order and leave the new one, or end it early.
 abbrev pub Joins : JoinedRows → List Combination → JoinedRows → Result (Unit {0}) EarlyEnd → Type 0
-Joins old rows new result = Leaves old (joined_each old.cap (Ok old.rows.items) rows) new result
+Joins old rows new result = Leaves old (joined_each old.cap (Ok old.rows) rows) new result
 
 -- The call answers the list that is wanted, or ends early as is wanted.
 abbrev pub IsList : Result (List Combination) EarlyEnd → Result (Vec Combination Global) EarlyEnd → Type 0

@@ -290,6 +290,13 @@ impl Combination {
         number_at(self.coefs.as_slice(), j)
     }
 
+    /// Its coefficients.
+    pub fn coefs(&self) -> &[i128]
+        ensures { result.now ≡ self.now.row.coefs }
+    {
+        self.coefs.as_slice()
+    }
+
     /// Whether it is an equality.
     pub fn is_equality(&self) -> bool
         ensures { result ≡ self.now.row.equality }

@@ -3,77 +3,49 @@
 //! A row joins over the greatest common divisor of its numbers. A row without variables is left
 //! out, or is a contradiction. Of parallel inequalities the one that says more stays, in the place
 //! of the first. What is too wide, or too many, ends the elimination.
-ghost use Rattle.std.specs.Prelude.{◌≡◌, [], ◌∷◌, List, position, OnOk};
-ghost use Rattle.elimination.specs.Joining.{is_parallel, placed, added, counted, kept};
+ghost use Rattle.std.specs.Prelude.{◌≡◌, [], ◌∷◌, List};
+ghost use Rattle.elimination.specs.Joining.{added, counted, kept};
 ghost use Rattle.elimination.specs.Outcome.{Leaves, Joins};
 
 use crate::answer::{EarlyEnd, Limit};
 use crate::combination::{Combination, Sum};
-use std::alloc::{AllocError, Global};
+use crate::indexed::IndexedRows;
+use std::alloc::Global;
 
 /// A list of rows that others join. It has at most `cap` rows.
 #[derive(Drop)]
 pub struct JoinedRows {
     pub alloc: Global,
     pub cap: u32,
-    pub rows: Vec<Combination>,
+    pub rows: IndexedRows,
 }
 
 impl JoinedRows {
     /// No rows yet.
     pub fn new(alloc: Global, cap: u32) -> JoinedRows
-        ensures rows { result.rows.items ≡ [] }
+        ensures rows { result.rows ≡ [] }
         ensures cap { result.cap ≡ cap }
     {
         JoinedRows {
             alloc,
             cap,
-            rows: Vec::new(alloc),
+            rows: IndexedRows::new(alloc),
         }
     }
 
     /// The rows that have joined.
     pub fn into_rows(self) -> Vec<Combination>
-        ensures { result.items ≡ self.rows.items }
+        ensures { result.items ≡ self.rows }
     {
-        self.rows
-    }
-
-    /// The place of the first inequality with the row's coefficients.
-    fn parallel(&self, row: &Combination) -> Option<usize>
-        ensures { result ≡ position (λ earlier. is_parallel earlier row.now) self.now.rows.items }
-    {
-        self.rows
-            .iter()
-            .position(|earlier| earlier.is_parallel(row))
-    }
-
-    /// An inequality goes to the end, or takes or leaves the place of the first parallel one.
-    fn place(&mut self, row: Combination) -> Result<(), AllocError>
-        ensures rows { OnOk result (self.new.rows.items ≡ placed self.old.rows.items row) }
-        ensures cap { OnOk result (self.new.cap ≡ self.old.cap) }
-    {
-        match self.parallel(&row) {
-            None => self.rows.push(row)?,
-            Some(at) => {
-                if row.is_tighter(&self.rows[at]) {
-                    self.rows[at] = row;
-                }
-            }
-        }
-        Ok(())
+        self.rows.into_rows()
     }
 
     /// A row with variables goes to its place, unless the list grows longer than the cap.
     fn add(&mut self, row: Combination) -> Result<(), EarlyEnd>
-        ensures { Leaves self.old (counted self.old.cap (added self.old.rows.items row))
+        ensures { Leaves self.old (counted self.old.cap (added self.old.rows row))
             self.new result }
     {
-        if row.is_equality() {
-            self.rows.push(row).map_err(AllocError::from)?;
-        } else {
-            self.place(row)?;
-        }
+        self.rows.add(self.alloc, row)?;
         if self.rows.len() > self.cap as usize {
             return Err(EarlyEnd::AtLimit(Limit::ManyRows));
         }
@@ -82,7 +54,7 @@ impl JoinedRows {
 
     /// A row without variables is left out where it holds, and is a contradiction otherwise.
     fn keep(&mut self, row: Combination) -> Result<(), EarlyEnd>
-        ensures { Leaves self.old (kept self.old.cap self.old.rows.items row) self.new result }
+        ensures { Leaves self.old (kept self.old.cap self.old.rows row) self.new result }
     {
         if !row.has_no_variable() {
             return self.add(row);

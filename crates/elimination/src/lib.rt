@@ -20,6 +20,9 @@ mod multipliers;
 // Rows with their multipliers.
 mod combination;
 
+// A list of rows with an index.
+mod indexed;
+
 // A list that rows join.
 mod joining;
 

@@ -5,6 +5,7 @@ pub mod Simulates
 pub mod Counting
 pub mod Fitting
 pub mod Rising
+pub mod Noted
 pub mod Stopping
 pub mod Listing
 pub mod Places

@@ -1,5 +1,5 @@
 -- The definitions at small graphs, worked out by hand.
-use Rattle.std.proofs.Common.{◌≡◌, false, [], ◌∷◌, Some, None, pos, negsuc, refl}
+use Rattle.std.proofs.Common.{◌≡◌, true, false, [], ◌∷◌, Some, None, pos, negsuc, refl}
 use Rattle.c_ast.specs.declared.expr.BinOp.TheVariants.{Add, Less}
 use Rattle.c_ast.specs.declared.place.Place.TheVariants as place
 use Rattle.c_ast.specs.Tree as tree
@@ -10,7 +10,7 @@ use Rattle.flow_graph.specs.Operation.{Set, Branch, Mark, Return}
 use Rattle.flow_graph.specs.FlowGraph.{FlowGraph, node_after, variables_at, places_of}
 use Rattle.flow_graph.specs.Run.{Goes, Passes, Ends, turn, values_of}
 use Rattle.flow_graph.specs.Layout.{layout, lay}
-use Rattle.flow_graph.specs.Stops.{with_stop}
+use Rattle.flow_graph.specs.Scopes.{with_declared, noted}
 
 -- the mark's node stands before the test's, and the body leads back to the mark
 sums_laid : lay sums.body (Some (Return (Num (pos 0))) ∷ []) 0 0 0
@@ -39,13 +39,15 @@ five = record { mark = 5; next = 3; scope = 0 ∷ [] }
 nine : Stop
 nine = record { mark = 9; next = 8; scope = 0 ∷ 2 ∷ [] }
 
-marks_rise : with_stop five (nine ∷ []) ≡ five ∷ nine ∷ []
-unfolding five nine
-marks_rise = refl
+-- int a = 0; { int b = 0; __mark(9); } __mark(5); while (__mark(7) & a) { int c = 0; __mark(6); }
+scopes_noted : noted (tree.Set 1 (Num (pos 0)) (tree.Block (tree.Set 2 (Num (pos 0)) (tree.Mark 9 tree.Nil)) (tree.Mark 5
+    (tree.Loop (Some 7) (Var 1) (tree.Set 3 (Num (pos 0)) (tree.Mark 6 tree.Nil)) tree.Nil true tree.Nil)))) (0 ∷ []) []
+    ≡ (5, 0 ∷ 1 ∷ []) ∷ (6, 0 ∷ 1 ∷ 3 ∷ []) ∷ (7, 0 ∷ 1 ∷ []) ∷ (9, 0 ∷ 1 ∷ 2 ∷ []) ∷ []
+scopes_noted = refl
 
-marks_rise_again : with_stop nine (five ∷ []) ≡ five ∷ nine ∷ []
-unfolding five nine
-marks_rise_again = refl
+-- a variable that is set again stays where it is
+set_again : with_declared 2 (0 ∷ 2 ∷ 5 ∷ []) ≡ 0 ∷ 2 ∷ 5 ∷ []
+set_again = refl
 
 -- a graph of two parameters, with these marks
 two : FlowGraph

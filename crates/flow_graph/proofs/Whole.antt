@@ -137,6 +137,31 @@ module _ (f : Function) (is : IsFunction f) (ops : List Op) (entry : ℕ) (out :
   count : length ops ≡ length final.slots
   count = ap length out.ops_are ∙ closed_length out.slots unfilled ∙ ap length slots_are
 
+  -- the statements are laid over the operations
+  abbrev at : Table
+  at i = option_map operation_of (slice_get ops i)
+
+  abbrev program : Program
+  program = program_of f
+
+  extends : Extends (table_of final.slots) at
+  extends = record { by = λ i o h. sym (table i) ∙ h }
+
+  node_is : entry ≡ final.node
+  node_is = ap (λ (z : Layout). z.node) out.laid
+
+  laid : Laid at program.body entry 0 0 0
+  laid = subst (λ (n : ℕ). Laid at program.body n 0 0 0) (sym node_is)
+      (laid_more program.body (table_of final.slots) at extends final.node 0 0 0 (lay_laid program.body ending 0 0 0))
+
+  end : IsEnd at 0
+  end = extends.by 0 (Return (tree.Num (pos 0)))
+      ((grows_extends ending final.slots (lay_grows program.body ending 0 0 0)).by 0 (Return (tree.Num (pos 0))) refl)
+
+  -- each mark has a node
+  found : (mark : ℕ) (w : Work) → Follows program mark w → Found at mark w
+  found mark w follows = position at program.body (first_variables f.params) [] entry 0 0 0 mark w laid (end, end, end) follows
+
   few_marks : (mark : ℕ) → slot_marks mark final.slots ≡ marks mark (statements_of f.body)
   few_marks mark = omega (arith, (lay_counts mark (statements_of f.body) ending 0 0 0).marks)
 
@@ -148,6 +173,7 @@ module _ (f : Function) (is : IsFunction f) (ops : List Op) (entry : ℕ) (out :
         record { work = stands.0; from = stands.1 };
     once = λ first second mark next after p q. one_node final.slots first second mark next after (omega (arith, few_marks mark, is.marked_once mark))
         (table first ∙ p) (table second ∙ q);
+    all = λ mark is_place. let o = found mark is_place.work is_place.from in (o.slot, o.node, o.is);
   }
 
   fits : LayFits (length f.vars) final.slots final.node
@@ -164,34 +190,20 @@ module _ (f : Function) (is : IsFunction f) (ops : List Op) (entry : ℕ) (out :
           ≡ op = cc in subst (λ (o : Operation). Fits (table_of ending) (length ending) (length f.vars) zero o) same tt
       ending_fits (suc i) op h = cc
 
-  node_is : entry ≡ final.node
-  node_is = ap (λ (z : Layout). z.node) out.laid
-
   -- ---- with its marks
 
-  within_ops : (node mark next : ℕ) → Marks ops node mark next → node < length ops
-  within_ops node mark next here = on (slice_get ops node) refl here
-    where
-      on : (o : Option Op) → slice_get ops node ≡ o → option_map operation_of o ≡ Some (Mark mark next) → node < length ops
-      on None is here = cc
-      on (Some o) is here = slice_get_within ops node o is
-
-  extends : Extends (table_of final.slots) (λ i. option_map operation_of (slice_get ops i))
-  extends = record { by = λ i o h. sym (table i) ∙ h }
-
-  fit : (node : ℕ) (o : Operation) → option_map operation_of (slice_get ops node) ≡ Some o
-      → Fits (λ i. option_map operation_of (slice_get ops i)) (length ops) (length f.vars) node o
+  fit : (node : ℕ) (o : Operation) → at node ≡ Some o → Fits at (length ops) (length f.vars) node o
   fit node o here = fits_more (table_of final.slots) _ extends (length final.slots) (length ops) (length f.vars) node o (omega (arith, count))
       (fits.fit.by node o (table node ∙ here))
 
-  module _ (stops : List Stop) (are : AreStops (program_of f) ops (length ops) stops) where
+  module _ (stops : List Stop) (are : AreStops (program_of f) ops stops) where
     afters : (mark : ℕ) (stop : Stop) → stop_of stops mark ≡ Some stop → (stop.next < length ops) × All (λ x. x < length f.vars) stop.scope
         × IsStrictlyIncreasing stop.scope
     afters mark stop found =
         let o = are.only mark stop found in
-        let p = marks_of.places o.0 mark stop.next o.2 in
-        let scope_is = sym (o.3 p.work p.from) in (
-          fit o.0 (Mark mark stop.next) o.2,
+        let p = marks_of.places o.0 mark stop.next o.1 in
+        let scope_is = sym (o.2 p.work p.from) in (
+          fit o.0 (Mark mark stop.next) o.1,
           subst (All (λ (x : ℕ). x < length f.vars)) scope_is (variables_in-All (scope_of p.work) (length f.vars)),
           subst IsStrictlyIncreasing scope_is (listed_rise (scope_of p.work) (length f.vars)),
         )
@@ -203,27 +215,13 @@ module _ (f : Function) (is : IsFunction f) (ops : List Op) (entry : ℕ) (out :
       count = omega (arith, count, ap length slots_are, slots_of-length out.slots, out.numbered);
       entry = omega (arith, node_is, fits.within, count);
       fit = fit;
-      marks = λ node mark next here. are.each node mark next (within_ops node mark next here) here;
+      marks = are.each;
       rising = are.rising;
       afters = afters;
     }
 
     abbrev graph : FlowGraph
     graph = record { params = f.params; vars = length f.vars; ops = ops; entry = entry; stops = stops }
-
-    abbrev at : Table
-    at = operation_at graph
-
-    abbrev program : Program
-    program = program_of f
-
-    laid : Laid at program.body entry 0 0 0
-    laid = subst (λ (n : ℕ). Laid at program.body n 0 0 0) (sym node_is)
-        (laid_more program.body (table_of final.slots) at extends final.node 0 0 0 (lay_laid program.body ending 0 0 0))
-
-    end : IsEnd at 0
-    end = extends.by 0 (Return (tree.Num (pos 0)))
-        ((grows_extends ending final.slots (lay_grows program.body ending 0 0 0)).by 0 (Return (tree.Num (pos 0))) refl)
 
     -- what the graph knows of a mark of the function
     record Knows (mark : ℕ) (w : Work) : Type 0 where
@@ -235,15 +233,15 @@ module _ (f : Function) (is : IsFunction f) (ops : List Op) (entry : ℕ) (out :
 
     knows : (mark : ℕ) (w : Work) → Follows program mark w → Knows mark w
     knows mark w follows =
-        let o = position at program.body (first_variables f.params) [] entry 0 0 0 mark w laid (end, end, end) follows in
-        let stop = are.each o.slot mark o.node (within_ops o.slot mark o.node o.is) o.is in
+        let o = found mark w follows in
+        let stop = are.each o.slot mark o.node o.is in
         let node : next_of (stop_of stops mark) ≡ o.node = ap next_of stop.found ∙ stop.next_is in
         record {
           b = o.b;
           t = o.t;
           laid = subst (λ (n : ℕ). WorkLaid at w n o.b o.t) (sym node) o.laid;
           known = subst IsSome (sym stop.found) refl;
-          scope = ap scope_of_stop stop.found ∙ (are.only mark stop.stop stop.found).3 w follows;
+          scope = ap scope_of_stop stop.found ∙ (are.only mark stop.stop stop.found).2 w follows;
         }
 
     shows : Shows program graph
@@ -285,7 +283,7 @@ module _ (f : Function) (is : IsFunction f) (ops : List Op) (entry : ℕ) (out :
       where
         on : (o : Option Stop) → stop_of stops mark ≡ o → IsSome o → IsPlace program (place.Mark mark)
         on None found some = absurd cc
-        on (Some stop) found some = let o = are.only mark stop found in marks_of.places o.0 mark stop.next o.2
+        on (Some stop) found some = let o = are.only mark stop found in marks_of.places o.0 mark stop.next o.1
     a_place place.Exit goes = absurd goes
 
     -- the values that fit the function's place fit the graph's
@@ -402,10 +400,10 @@ marks_listed f ops listed entry is out listed_is = subst (MarksOf (program_of f)
 
 module _ (f : Function) (params vars entry : ℕ) (ops listed own : List Op) (stops kept : List Stop) (is : IsFunction f)
     (out : IsLaidOut (program_of f) ops entry) (listed_is : listed ≡ ops)
-    (are : AreStops (program_of f) listed (length listed) stops) (params_is : params ≡ f.params) (vars_is : vars ≡ length f.vars) (own_is : own ≡ ops)
+    (are : AreStops (program_of f) listed stops) (params_is : params ≡ f.params) (vars_is : vars ≡ length f.vars) (own_is : own ≡ ops)
     (kept_is : kept ≡ stops) where
-  are_stops : AreStops (program_of f) ops (length ops) stops
-  are_stops = subst (λ (z : List Op). AreStops (program_of f) z (length z) stops) listed_is are
+  are_stops : AreStops (program_of f) ops stops
+  are_stops = subst (λ (z : List Op). AreStops (program_of f) z stops) listed_is are
 
   pub built_well : IsFlowGraph (record { params = params; vars = vars; ops = own; entry = entry; stops = kept })
   built_well = rw (params_is, vars_is, own_is, kept_is) (well_formed f is ops entry out stops are_stops)

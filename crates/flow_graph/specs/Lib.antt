@@ -6,4 +6,5 @@ pub mod Judged
 pub mod Built
 pub mod Laws
 pub mod Layout
+pub mod Scopes
 pub mod Stops

@@ -14,6 +14,7 @@ mod op;
 // How a function becomes one.
 mod builder;
 mod layout;
+mod scopes;
 mod stop;
 
 // What graphs promise of segments and values.

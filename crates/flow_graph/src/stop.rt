@@ -1,13 +1,16 @@
 //! The marks of a graph, by rising number.
-ghost use Rattle.std.specs.Prelude.{◌≡◌, ◌≤◌, nat_lt, length, IfOk, OnOk};
-ghost use Rattle.std.specs.List.{prefix_len};
+ghost use Rattle.std.specs.Prelude.{◌≡◌, length, map, IfOk};
+ghost use Rattle.std.specs.Ordering.{nat_cmp};
+ghost use Rattle.std.specs.BTreeMap.{IsOrdered};
 ghost use Rattle.c_ast.specs.Function.{program_of};
-ghost use Rattle.flow_graph.specs.Stops.{with_stop, MarksOf, AreStops};
+ghost use Rattle.flow_graph.specs.Stops.{MarksOf, AreNexts, AreKnown, joined, AreStops};
 
 use crate::Op;
-use c_ast::{Func, Place};
+use crate::scopes::scopes_of;
+use c_ast::Func;
 use sqlite_items::Items;
 use std::alloc::{AllocError, Global};
+use std::collections::BTreeMap;
 
 /// A mark, the node at which a run goes on from it, and the variables in scope there, by rising
 /// number.
@@ -18,41 +21,44 @@ pub struct Stop {
     pub scope: Items<u32>,
 }
 
-/// How many marks at the front are less.
-fn place_of(stops: &[Stop], mark: u32) -> usize
-    ensures place { result ≡ prefix_len (λ other. nat_lt other.mark mark) stops.now }
-    ensures within { result ≤ length stops.now }
+/// The node at which a run goes on from each mark.
+fn nexts_of(alloc: Global, ops: &[Op]) -> Result<BTreeMap<u32, u32>, AllocError>
+    ensures { IfOk result (λ nexts. AreNexts ops.now (length ops.now) nexts) }
 {
-    stops.iter().take_while(|other| other.mark < mark).count()
+    let mut nexts = BTreeMap::new(alloc);
+    for op in ops {
+        if let Op::Mark { mark, next } = op {
+            nexts.insert(*mark, *next)?;
+        }
+    }
+    Ok(nexts)
 }
 
-/// Puts the stop in front of the first whose mark is not less.
-fn insert(stops: &mut Vec<Stop>, stop: Stop) -> Result<(), AllocError>
-    ensures { OnOk result (stops.new.items ≡ with_stop stop stops.old.items) }
+/// Marks with their scopes, each joined with the node at which a run goes on from it.
+fn join(
+    alloc: Global,
+    nexts: &BTreeMap<u32, u32>,
+    scopes: BTreeMap<u32, Items<u32>>,
+) -> Result<Vec<Stop>, AllocError>
+    requires { AreKnown nexts.now scopes.entries }
+    ensures joined { IfOk result (λ stops.
+        stops.items ≡ map (joined nexts.now) scopes.entries) }
+    ensures ordered { IsOrdered nat_cmp scopes }
 {
-    let mark = stop.mark;
-    let place = place_of(stops.as_slice(), mark);
-    stops.insert(place, stop)?;
-    Ok(())
+    let mut stops = Vec::new(alloc);
+    for (mark, scope) in scopes {
+        let next = *nexts.get(&mark).unwrap();
+        stops.push(Stop { mark, next, scope })?;
+    }
+    Ok(stops)
 }
 
 /// What the graph with these nodes knows of its marks.
 pub(crate) fn stops_of(alloc: Global, func: &Func, ops: &[Op]) -> Result<Vec<Stop>, AllocError>
     requires { MarksOf (program_of func.now) ops.now }
-    ensures { IfOk result (λ stops.
-        AreStops (program_of func.now) ops.now (length ops.now) stops.items) }
+    ensures { IfOk result (λ stops. AreStops (program_of func.now) ops.now stops.items) }
 {
-    let mut stops = Vec::new(alloc);
-    for op in ops {
-        if let Op::Mark { mark, next } = op {
-            let scope = Items::from_vec(func.scope(alloc, Place::Mark(*mark))?);
-            let stop = Stop {
-                mark: *mark,
-                next: *next,
-                scope,
-            };
-            insert(&mut stops, stop)?;
-        }
-    }
-    Ok(stops)
+    let nexts = nexts_of(alloc, ops)?;
+    let scopes = scopes_of(alloc, func)?;
+    join(alloc, &nexts, scopes)
 }

@@ -1,7 +1,12 @@
-//! A graph that was worked out by hand, from the order in which statements are laid.
-ghost use Rattle.std.specs.Prelude.{◌≡◌, length, pos, IfOk, Some, true};
+//! A graph that was worked out by hand, from the order in which statements are laid, and scopes that
+//! are compared with those that the function tells.
+ghost use Rattle.std.specs.Prelude.{◌≡◌, length, pos, IfOk, Some, None, true};
+ghost use Rattle.c_ast.specs.declared.place.Place.TheVariants as place;
 ghost use Rattle.c_ast.specs.Tree as tree;
 ghost use Rattle.c_ast.specs.View.{expression_of, statements_of};
+ghost use Rattle.c_ast.specs.Function.{program_of};
+ghost use Rattle.flow_graph.specs.FlowGraph.{GoesOnAt};
+ghost use Rattle.flow_graph.specs.Built.{IsGraphOf};
 
 use crate::{Graph, build};
 use c_ast::{Expr, Func, Name, Place, Stmt, Var};
@@ -17,6 +22,10 @@ const NODES: &str = "Return(Num(0)); Return(Var(1)); Mark { mark: 7, next: 5 }; 
 
 /// Each place, how many values a run has there, and the variables in scope.
 const PLACES: &str = "Entry 1: 0; Mark(7) 2: 0 1; Mark(9) 3: 0 1 2; Exit 1:; ";
+
+/// The same of the function whose statements are nested.
+const NESTED: &str = "Entry 1: 0; Mark(4) 2: 0 2; Mark(5) 1: 0; Mark(7) 2: 0 2; Mark(9) 2: 0 1; \
+    Exit 1:; ";
 
 fn name(alloc: Global, text: &str) -> Result<Name, AllocError> {
     Ok(Name::new(String::from_str(alloc, text)?))
@@ -116,11 +125,83 @@ fn places(alloc: Global, graph: &Graph) -> Result<String, AllocError> {
     Ok(out)
 }
 
+/// { int i = 0; __mark(9); }
+fn block(alloc: Global) -> Result<Items<Stmt>, AllocError>
+    ensures { IfOk result (λ stmts. statements_of stmts
+        ≡ tree.Set 1 (tree.Num (pos 0)) (tree.Mark 9 tree.Nil)) }
+{
+    let mut stmts = Items::new(alloc);
+    stmts.push(Stmt::Set(1, zero()))?;
+    stmts.push(Stmt::Mark(9))?;
+    Ok(stmts)
+}
+
+/// int k = 0; while (__mark(7) & n) { __mark(4); }
+fn branch(alloc: Global) -> Result<Items<Stmt>, AllocError>
+    ensures { IfOk result (λ stmts. statements_of stmts ≡ tree.Set 2 (tree.Num (pos 0))
+        (tree.Loop (Some 7) (tree.Var 0) (tree.Mark 4 tree.Nil) tree.Nil true tree.Nil)) }
+{
+    let mut turn = Items::new(alloc);
+    turn.push(Stmt::Mark(4))?;
+    let mut stmts = Items::new(alloc);
+    stmts.push(Stmt::Set(2, zero()))?;
+    stmts.push(Stmt::Loop {
+        mark: Some(7),
+        cond: var(0),
+        body: turn,
+        step: Items::new(alloc),
+        test_first: true,
+    })?;
+    Ok(stmts)
+}
+
+/// int f(int n) { { int i = 0; __mark(9); } if (n) { int k = 0; while (..) .. } __mark(5); }
+fn nested(alloc: Global) -> Result<Func, AllocError> {
+    let vars = variables(alloc)?;
+    let mut body = Vec::new(alloc);
+    body.push(Stmt::Block(block(alloc)?))?;
+    body.push(Stmt::If(var(0), branch(alloc)?, Items::new(alloc)))?;
+    body.push(Stmt::Mark(5))?;
+    Ok(Func::new(name(alloc, "f")?, 1, vars, body))
+}
+
+/// The variables in scope at a mark of the graph, as its function tells them.
+fn told(alloc: Global, func: &Func, graph: &Graph, mark: u32) -> Result<Vec<u32>, AllocError>
+    requires built { IsGraphOf (program_of func.now) graph.now }
+    requires mark { GoesOnAt graph.now (place.Mark mark) }
+{
+    func.scope(alloc, Place::Mark(mark))
+}
+
+/// Whether the scopes at the graph's marks are those that the function tells.
+fn has_told_scopes(alloc: Global, func: &Func, graph: &Graph) -> Result<bool, AllocError>
+    requires { IsGraphOf (program_of func.now) graph.now }
+{
+    for place in &graph.places(alloc)? {
+        if let Place::Mark(mark) = place {
+            let told = told(alloc, func, graph, *mark)?;
+            if graph.vars_at(alloc, *place)?.as_slice() != told.as_slice() {
+                return Ok(false);
+            }
+        }
+    }
+    Ok(true)
+}
+
 #[test]
 fn a_function_has_the_graph_that_was_worked_out(rt: HostRuntime) -> Result<(), Fail> {
     let graph = build(rt.alloc(), &worked(rt.alloc())?)?;
     assert_eq!(rt; nodes(rt.alloc(), &graph)?.as_str(), NODES);
     assert_eq!(rt; graph.after(Place::Entry), 6);
     assert_eq!(rt; places(rt.alloc(), &graph)?.as_str(), PLACES);
+    Ok(())
+}
+
+#[test]
+fn what_is_declared_in_a_list_is_out_of_scope_behind_it(rt: HostRuntime) -> Result<(), Fail> {
+    let func = nested(rt.alloc())?;
+    let graph = build(rt.alloc(), &func)?;
+    assert_eq!(rt; places(rt.alloc(), &graph)?.as_str(), NESTED);
+    assert!(rt; has_told_scopes(rt.alloc(), &func, &graph)?);
     Ok(())
 }

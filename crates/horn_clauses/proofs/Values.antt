@@ -1,5 +1,6 @@
 -- What the equalities of values of both sides say.
-use Rattle.std.proofs.Common.{◌≡◌, ℕ, zero, suc, ◌+◌, ◌<◌, ◌≤◌, ◌⊎◌, inl, inr, List, [], ◌∷◌, ◌++◌, length, replicate, get_or, ℤ, pos, negsuc, ◌+ℤ◌, ◌*ℤ◌, neg_ℤ, refl, sym, ap, ◌∙◌, subst, arith, length-set}
+use Rattle.std.proofs.Common.{◌≡◌, ℕ, zero, suc, ◌+◌, ◌<◌, ◌≤◌, ◌⊎◌, inl, inr, List, [], ◌∷◌, ◌++◌, length, replicate, get_or, length-set}
+use Rattle.std.proofs.Common.{ℤ, pos, negsuc, ◌+ℤ◌, ◌*ℤ◌, neg_ℤ, refl, sym, ap, ◌∙◌, subst, arith}
 use Rattle.std.specs.Prelude.{All}
 use Rattle.std.proofs.lemmas.Int.{ints}
 use Rattle.std.proofs.lemmas.List.{length-replicate, ext_get_or}
@@ -8,7 +9,7 @@ use Rattle.lin_terms.specs.Vectors.{dot, only_at}
 use Rattle.lin_terms.proofs.Laws.{dot-append, dot-only_at}
 use Rattle.horn_clauses.specs.declared.atom.Atom.{Atom}
 use Rattle.horn_clauses.specs.Atom.{AtomHolds}
-use Rattle.horn_clauses.specs.Equalities.{equality_at, equalities_from, equal_parameters, ParametersAreEqual, ResultsAreEqual}
+use Rattle.horn_clauses.specs.Equalities.{equality_at, equalities_from, ParametersAreEqual, ResultsAreEqual}
 
 one_times : (z : ℤ) → pos 1 *ℤ z ≡ z
 one_times (pos n) = ap pos (omega arith)

@@ -1,1 +1,3 @@
 pub mod Proves
+pub mod Settles
+pub mod Laws

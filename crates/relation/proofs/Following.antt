@@ -37,7 +37,8 @@ decide_exits place.Exit place.Entry = inr (λ both. let second = both.1 in cc)
 decide_exits place.Exit (place.Mark k) = inr (λ both. let second = both.1 in cc)
 decide_exits place.Exit place.Exit = inl (refl, refl)
 
-module _ (f g : Program) (alignment : ℕ) (named : IsAlignment alignment) (Said : Node → List ℤ → List ℤ → Type 0) (kept : AreKept f g alignment Said) (u v : ℤ) where
+module _ (f g : Program) (alignment : ℕ) (named : IsAlignment alignment)
+    (Said : Node → List ℤ → List ℤ → Type 0) (kept : AreKept f g alignment Said) (u v : ℤ) where
   at_exits : (d e : List ℤ) (i j : ℕ) → LeadsOut f place.Exit d i u → LeadsOut g place.Exit e j v → Said exits d e → Said exits (u ∷ []) (v ∷ [])
   at_exits d e i j first second said =
       let with_left : Said exits (u ∷ []) e = subst (λ (z : List ℤ). Said exits z e) (leads_from_exit f d i u first) said in
@@ -59,7 +60,8 @@ module _ (f g : Program) (alignment : ℕ) (named : IsAlignment alignment) (Said
   follow (suc n) l r d e i j few first second said (inr away) =
       let a = takes_some f u (counts_at (counts_of alignment) l r).0 l d i first in
       let b = takes_some g v (counts_at (counts_of alignment) l r).1 r e j second in
-      let said' = kept l r a.place_met b.place_met d e a.values_there b.values_there (not_exits l r away) (leads_fits f l d i u first) (leads_fits g r e j v second) said
+      let said' = kept l r a.place_met b.place_met d e a.values_there b.values_there (not_exits l r away)
+      (leads_fits f l d i u first) (leads_fits g r e j v second) said
       (record { first = a.takes; second = b.takes }) in
       follow n a.place_met b.place_met a.values_there b.values_there a.left b.left
       (omega (arith, a.fewer, b.fewer, some_moves alignment l r named away)) a.leads b.leads said' (decide_exits a.place_met b.place_met)

@@ -4,3 +4,4 @@ pub mod Couplings
 pub mod Laws
 pub mod Samples
 pub mod LoopSamples
+pub mod EndingSamples

@@ -1,6 +1,7 @@
 -- A coupling of a function with a loop and a copy of it: the values of both sides are the same at the entries, at the loop's
 -- mark, and at the exits.
-use Rattle.std.proofs.Common.{◌≡◌, ℕ, zero, suc, ◌+◌, ◌≤◌, Bool, true, false, ◌&&◌, cond, eqb, ltb, inl, inr, List, [], ◌∷◌, ◌++◌, length, ℤ, refl, sym, ap, ◌∙◌, subst, arith}
+use Rattle.std.proofs.Common.{◌≡◌, ℕ, zero, suc, ◌+◌, ◌≤◌, Bool, true, false, ◌&&◌, cond, eqb, ltb, inl, inr}
+use Rattle.std.proofs.Common.{List, [], ◌∷◌, ◌++◌, length, ℤ, refl, sym, ap, ◌∙◌, subst, arith}
 use Rattle.std.specs.Prelude.{All}
 use Rattle.std.proofs.lemmas.Bool.{eq-eqb}
 use Rattle.std.proofs.lemmas.Int.{ints}
@@ -161,7 +162,8 @@ kept l r l' r' d e d' e' away first second said moves =
     let fits = takes_fits counter (counts_at (counts_of 1) l r).0 l d l' d' first moves.first in
     let inside : InFamily counting (node l' l') (d' ++ d') = to_family l' d' fits in
     record {
-      inside = subst (λ (z : Place). InFamily counting (node l' z) (d' ++ e')) after.0 (subst (λ (z : List ℤ). InFamily counting (node l' l') (d' ++ z)) after.1 inside);
+      inside = subst (λ (z : Place). InFamily counting (node l' z) (d' ++ e')) after.0
+          (subst (λ (z : List ℤ). InFamily counting (node l' l') (d' ++ z)) after.1 inside);
       meets = λ same. refl;
     }
 

@@ -55,7 +55,7 @@ results = refl
 
 -- ---- int f(int a) { return a; } and int g(int a) { int b = 0; b = a; return b; }
 
-plain : Program
+unfoldable pub plain : Program
 plain = record { params = 1; vars = 1; body = Return (Var 0) Nil }
 
 copying : Program
@@ -96,7 +96,7 @@ copying_goes_out x met segment =
     after (suc (suc (suc n))) same = met_is (place.Exit, x ∷ []) met same
 
 -- One segment is taken from the entry.
-take_one : (f : Program) (e e' : List ℤ) (l' : Place) → Takes (IsSegment f) 1 place.Entry e l' e' → IsSegment f place.Entry e l' e'
+pub take_one : (f : Program) (e e' : List ℤ) (l' : Place) → Takes (IsSegment f) 1 place.Entry e l' e' → IsSegment f place.Entry e l' e'
 take_one f e e' l' takes =
     let at_place = subst (λ (z : Place). IsSegment f place.Entry e z takes.1) (sym takes.3.0) takes.2 in
     subst (λ (z : List ℤ). IsSegment f place.Entry e l' z) (sym takes.3.1) at_place

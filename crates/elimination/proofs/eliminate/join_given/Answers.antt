@@ -18,12 +18,12 @@ returns-in_err-join c =
     let i = c.loop-i.i in
     let given : List Row = c.args.given.now in
     let made : Combination = c.in_ok-made.made in
-    let target : Result (List Combination) EarlyEnd = joined_each old.cap (Ok old.rows.items) (initial 0 given) in
+    let target : Result (List Combination) EarlyEnd = joined_each old.cap (Ok old.rows) (initial 0 given) in
     let later : List Combination = initial (i + 1) (drop (i + 1) given) in
-    let joins = given_joins mid.cap i given c.index-given-i.result made mid.rows.items target c.loop-i-test.true c.index-given-i.is c.in_ok-made.ensures
+    let joins = given_joins mid.cap i given c.index-given-i.result made mid.rows target c.loop-i-test.true c.index-given-i.is c.in_ok-made.ensures
     c.loop-i.invariant.left in
     rw (p.1, p.2) (ends_first (λ before. joined_each mid.cap before later) (λ early. ended_each mid.cap early later)
-    (joined_each mid.cap (Ok mid.rows.items) (made ∷ [])) target
+    (joined_each mid.cap (Ok mid.rows) (made ∷ [])) target
     c.in_err-join.field-0.0 joins c.in_err-join.ensures)
 
 pub loop-i-preserved : goal.loop-i-preserved
@@ -34,13 +34,13 @@ loop-i-preserved c =
     let i = c.loop-i.i in
     let given : List Row = c.args.given.now in
     let made : Combination = c.in_ok-made.made in
-    let target : Result (List Combination) EarlyEnd = joined_each old.cap (Ok old.rows.items) (initial 0 given) in
+    let target : Result (List Combination) EarlyEnd = joined_each old.cap (Ok old.rows) (initial 0 given) in
     let later : List Combination = initial (i + 1) (drop (i + 1) given) in
-    let joins = given_joins mid.cap i given c.index-given-i.result made mid.rows.items target c.loop-i-test.true c.index-given-i.is c.in_ok-made.ensures
+    let joins = given_joins mid.cap i given c.index-given-i.result made mid.rows target c.loop-i-test.true c.index-given-i.is c.in_ok-made.ensures
     c.loop-i.invariant.left in
     let more = c.in_ok-join.ensures in
     record {
-      left = ap (λ cap. joined_each cap (Ok new.rows.items) later) more.1
+      left = ap (λ cap. joined_each cap (Ok new.rows) later) more.1
           ∙ ap (λ (t : Result (List Combination) EarlyEnd). joined_each mid.cap t later) (sym more.0) ∙ joins;
       cap = more.1 ∙ c.loop-i.invariant.cap;
     }

@@ -1,24 +1,14 @@
-use Rattle.std.proofs.Common.{◌∙◌, ap}
+use Rattle.std.proofs.lemmas.Result.{IfOk-weaker}
 use Rattle.c_ast.specs.Function.{program_of}
-use Rattle.flow_graph.proofs.Stopping.{marks_here, stops_one, stops_other}
+use Rattle.flow_graph.proofs.Stopping.{all_known, are_stops}
 use Rattle.flow_graph.proofs.stop.stops_of.Goals as goal
-use Rattle.flow_graph.proofs.stop.stops_of.Goals.{in-Mark+in_ok-scope+in_ok-insert, in_default}
 
-pub scope-requires : goal.scope-requires
-scope-requires c =
-    c.requires.places c.loop-op.op-index c.in-Mark.mark c.in-Mark.next
-    (marks_here c.args.ops.now c.loop-op.op-index c.op-item.result c.in-Mark.mark c.in-Mark.next c.loop-op-test.true c.op-item.is c.in-Mark.is)
+pub join-requires : goal.join-requires
+join-requires c =
+    all_known (program_of c.args.func.now) c.args.ops.now c.in_ok-nexts.nexts c.requires c.in_ok-nexts.ensures c.in_ok-scopes.scopes.entries
+    c.in_ok-scopes.ensures
 
-pub loop-op-preserved : goal.loop-op-preserved
-loop-op-preserved c =
-    elim c.match-op.branch [
-      | in-Mark+in_ok-scope+in_ok-insert w ↦
-          stops_one (program_of c.args.func.now) c.args.ops.now c.loop-op.op-index c.loop-op.stops.items c.match-op.stops.items w.in_ok-scope.field-0.items
-          w.from_vec-scope.result c.op-item.result w.in-Mark.mark
-          w.in-Mark.next c.requires c.loop-op.invariant c.loop-op-test.true c.op-item.is w.in-Mark.is w.in_ok-scope.ensures w.from_vec-scope.ensures
-          (ap (λ stops. stops.items) w.stops-is ∙ w.in_ok-insert.ensures)
-      | in_default w ↦
-          stops_other (program_of c.args.func.now) c.args.ops.now c.loop-op.op-index c.loop-op.stops.items c.match-op.stops.items c.op-item.result
-          c.loop-op.invariant c.loop-op-test.true c.op-item.is
-          w.in_default.not-Mark (ap (λ stops. stops.items) w.stops-is)
-    ]
+pub returns : goal.returns
+returns c =
+    IfOk-weaker c.join.result _ _ (λ stops. are_stops (program_of c.args.func.now) c.args.ops.now c.in_ok-nexts.nexts c.requires c.in_ok-nexts.ensures
+    c.in_ok-scopes.scopes stops.items c.in_ok-scopes.ensures c.join.ensures.ordered) c.join.ensures.joined

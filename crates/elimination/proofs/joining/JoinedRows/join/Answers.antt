@@ -11,7 +11,7 @@ pub returns-in-Some : goal.returns-in-Some
 returns-in-Some c =
     let row : Combination = c.in_ok-row.row in
     let cap = c.args.self.now.cap in
-    let rows : List Combination = c.args.self.now.rows.items in
+    let rows : List Combination = c.args.self.now.rows in
     let same = kept_same (is_wide (numbers_of row)) row c.in-Some.row c.in-Some.ensures in
     subst (λ (wanted : Result (List Combination) EarlyEnd). Leaves c.args.self.now wanted c.keep.new.self c.keep.result)
     (sym (joined_one cap rows c.args.row ∙ joined_kept cap rows c.args.row row c.in_ok-row.ensures same.1 ∙ ap (kept cap rows) same.0)) c.keep.ensures

@@ -1,0 +1,3 @@
+pub mod Points
+pub mod More
+pub mod Laws
