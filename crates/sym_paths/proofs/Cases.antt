@@ -89,23 +89,27 @@ module _ (graph : FlowGraph) (is : IsFlowGraph graph) (l : Place) (goes : GoesOn
 
   to_case : (l' : Place) (e' : List ℤ) → IsGraphSegment graph l e l' e' → (path : Path End) → ReachedFrom e Owed path → LeadsTo e l' e' (completed path)
   to_case l' e' segment path reached =
-      let same = graph_segment_is_determined graph l e path.value.place l' reached.has.values e' (segment_of path.value reached.has.values reached.has.meets) segment in
+      let found = segment_of path.value reached.has.values reached.has.meets in
+      let same = graph_segment_is_determined graph l e path.value.place l' reached.has.values e' found segment in
       let point_is : reached.longer ≡ e ++ reached.extends.behind = reached.extends.is in
-      let columns : path.state.columns ≡ length (e ++ reached.extends.behind) = sym reached.whole.exact ∙ ap (λ (xs : List ℤ). length xs) point_is in
-      (reached.extends.behind, record {
-        columns = (
-          subst (λ (k : ℕ). All (λ row. length row.coefs ≡ k) (map (fitted_row path.state.columns) path.state.rows)) columns
-            (rows_have_length path.state.columns path.state.rows),
-          subst (λ (k : ℕ). All (λ form. length form.coefs ≡ k) (map (fitted_form path.state.columns) path.value.forms)) columns
-            (forms_have_length path.state.columns path.value.forms));
-        holds = rows_hold (e ++ reached.extends.behind) path.state.columns path.state.rows (omega (arith, columns))
-          (subst (λ (xs : List ℤ). All (Holds xs) path.state.rows) point_is
-            (All-weaker (HoldsBefore reached.longer) (Holds reached.longer) (λ row. holds_here reached.longer row) path.state.rows reached.whole.holds));
-        place = same.0;
-        values = values_fitted (e ++ reached.extends.behind) path.state.columns path.value.forms (omega (arith, columns))
-          ∙ ap (λ (xs : List ℤ). map (λ (f : Form). value_at f xs) path.value.forms) (sym point_is)
-          ∙ values_are reached.longer path.value.forms reached.has.values reached.has.have ∙ same.1;
-      })
+      let columns : path.state.columns ≡ length (e ++ reached.extends.behind) = sym reached.whole.exact ∙ ap (λ (xs : List ℤ). length xs) point_is in (
+        reached.extends.behind,
+        record {
+          columns = (
+            subst (λ (k : ℕ). All (λ row. length row.coefs ≡ k) (map (fitted_row path.state.columns) path.state.rows)) columns
+                (rows_have_length path.state.columns path.state.rows),
+            subst (λ (k : ℕ). All (λ form. length form.coefs ≡ k) (map (fitted_form path.state.columns) path.value.forms)) columns
+                (forms_have_length path.state.columns path.value.forms),
+          );
+          holds = rows_hold (e ++ reached.extends.behind) path.state.columns path.state.rows (omega (arith, columns))
+              (subst (λ (xs : List ℤ). All (Holds xs) path.state.rows) point_is
+              (All-weaker (HoldsBefore reached.longer) (Holds reached.longer) (λ row. holds_here reached.longer row) path.state.rows reached.whole.holds));
+          place = same.0;
+          values = values_fitted (e ++ reached.extends.behind) path.state.columns path.value.forms (omega (arith, columns))
+              ∙ ap (λ (xs : List ℤ). map (λ (f : Form). value_at f xs) path.value.forms) (sym point_is)
+              ∙ values_are reached.longer path.value.forms reached.has.values reached.has.have ∙ same.1;
+        },
+      )
 
   from_case : (l' : Place) (e' : List ℤ) (path : Path End)
       → ((point : List ℤ) → IsPoint point path.state → IsPoint point (start_state width) × (HaveValues point begun env → Owed point path.value))
@@ -114,17 +118,17 @@ module _ (graph : FlowGraph) (is : IsFlowGraph graph) (l : Place) (goes : GoesOn
       let zeros : List ℤ = replicate path.state.columns (pos 0) in
       let point : List ℤ = (e ++ unknowns) ++ replicate path.state.columns (pos 0) in
       let long : length ((e ++ unknowns) ++ replicate path.state.columns (pos 0)) ≡ length (e ++ unknowns) + path.state.columns =
-        length-append (e ++ unknowns) zeros ∙ ap (λ (k : ℕ). length (e ++ unknowns) + k) (length-replicate path.state.columns (pos 0)) in
+      length-append (e ++ unknowns) zeros ∙ ap (λ (k : ℕ). length (e ++ unknowns) + k) (length-replicate path.state.columns (pos 0)) in
       let at : IsPoint ((e ++ unknowns) ++ replicate path.state.columns (pos 0)) path.state = record {
         room = omega (arith, long);
         holds = rows_hold_before (e ++ unknowns) path.state.columns path.state.rows leads.columns.0 leads.holds;
       } in
       let further : Extends e ((e ++ unknowns) ++ replicate path.state.columns (pos 0)) =
-        record { behind = unknowns ++ replicate path.state.columns (pos 0); is = append_assoc e unknowns (replicate path.state.columns (pos 0)) } in
+      record { behind = unknowns ++ replicate path.state.columns (pos 0); is = append_assoc e unknowns (replicate path.state.columns (pos 0)) } in
       let owed = (sound point at).1 (have_longer e point begun env further begun_have) in
       let values_same : owed.values ≡ e' =
-        sym (values_are point path.value.forms owed.values owed.have)
-        ∙ sym (values_before (e ++ unknowns) path.state.columns path.value.forms leads.columns.1) ∙ leads.values in
+      sym (values_are point path.value.forms owed.values owed.have)
+      ∙ sym (values_before (e ++ unknowns) path.state.columns path.value.forms leads.columns.1) ∙ leads.values in
       subst (λ (p : Place). IsGraphSegment graph l e p e') leads.place
       (subst (λ (vs : List ℤ). IsGraphSegment graph l e path.value.place vs) values_same (segment_of path.value owed.values owed.meets))
 
@@ -132,12 +136,12 @@ module _ (graph : FlowGraph) (is : IsFlowGraph graph) (l : Place) (goes : GoesOn
       → IsGraphSegment graph l e l' e' ↔ SomeOf (LeadsTo e l' e') (map completed paths)
   both_ways paths collected l' e' = (
     λ segment. some_of_map (LeadsTo e l' e') completed paths
-      (some_of_changed (ReachedFrom e Owed) (λ path. LeadsTo e l' e' (completed path)) paths (to_case l' e' segment)
+        (some_of_changed (ReachedFrom e Owed) (λ path. LeadsTo e l' e' (completed path)) paths (to_case l' e' segment)
         (some_collected (ReachedFrom e Owed) 1024 (segment_walk graph l) paths collected (walked.complete e begun_point begun_have))),
     λ some.
-      let found = picked _ paths (both_of _ (λ path. LeadsTo e l' e' (completed path)) paths
+        let found = picked _ paths (both_of _ (λ path. LeadsTo e l' e' (completed path)) paths
         (each_collected _ 1024 (segment_walk graph l) paths collected walked.sound) (some_from_map (LeadsTo e l' e') completed paths some)) in
-      from_case l' e' found.0 found.1.0 found.1.1,
+        from_case l' e' found.0 found.1.0 found.1.1,
   )
 
 pub law_of_cases : LawOfCases
@@ -145,10 +149,11 @@ law_of_cases graph is l goes cases made e l' e' exact = on (collect 1024 (segmen
   where
     width_exact : length e ≡ length (variables_at graph l)
     width_exact = exact ∙ width_is graph l goes
+
     on : (r : Result (List (Path End)) PathLimit) → collect 1024 (segment_walk graph l) ≡ r → all_completed r ≡ Ok cases
         → IsGraphSegment graph l e l' e' ↔ SomeOf (LeadsTo e l' e') cases
     on (Ok paths) collected made =
         let same : map completed paths ≡ cases = cc in
         subst (λ (cs : List Case). IsGraphSegment graph l e l' e'
-            ↔ SomeOf (LeadsTo e l' e') cs) same (both_ways graph is l goes e width_exact paths collected l' e')
+        ↔ SomeOf (LeadsTo e l' e') cs) same (both_ways graph is l goes e width_exact paths collected l' e')
     on (Err limit) collected made = cc

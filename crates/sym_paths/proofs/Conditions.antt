@@ -39,7 +39,7 @@ module _ (arity : ℕ) (c : Expression) (can : CanEvaluate arity c) (inputs : Li
   stable point longer x have = have_longer point longer forms inputs x have
 
   tests : Splits (start_state arity) Begun (λ point answer. Begun point × (answer ≡ is_nonzero (eval c inputs)))
-    (condition (symbolic (room_for arity) forms c) (start_state arity))
+      (condition (symbolic (room_for arity) forms c) (start_state arity))
   tests =
       condition_splits (room_for arity) Begun stable (symbolic (room_for arity) forms c) (eval c inputs)
       (symbolic_means (room_for arity) Begun stable forms inputs (λ point have. have) arity c can) (start_state arity)
@@ -64,7 +64,7 @@ module _ (arity : ℕ) (c : Expression) (can : CanEvaluate arity c) (inputs : Li
   each_says : EachArrives Says (condition_walk arity c)
   each_says =
       onward_each where_true _ Says (condition (symbolic (room_for arity) forms c) (start_state arity))
-          (λ path i. only_true path.value path.state i) tests.sound
+      (λ path i. only_true path.value path.state i) tests.sound
     where
       only_true : (answer : Bool) (state : State)
           → ((point : List ℤ) → IsPoint point state → IsPoint point (start_state arity) × (Begun point → Begun point × (answer ≡ is_nonzero (eval c inputs))))
@@ -75,26 +75,28 @@ module _ (arity : ℕ) (c : Expression) (can : CanEvaluate arity c) (inputs : Li
   to_rows : (path : Path (Unit {0})) → ReachedFrom inputs IsMet path → HoldAt inputs (completed_rows path)
   to_rows path reached =
       let columns : path.state.columns ≡ length (inputs ++ reached.extends.behind) =
-        sym reached.whole.exact ∙ ap (λ (xs : List ℤ). length xs) reached.extends.is in
-      (reached.extends.behind, record {
-        columns = subst (λ (k : ℕ). All (λ row. length row.coefs ≡ k) (map (fitted_row path.state.columns) path.state.rows)) columns
-          (rows_have_length path.state.columns path.state.rows);
-        holds = rows_hold (inputs ++ reached.extends.behind) path.state.columns path.state.rows (omega (arith, columns))
-          (subst (λ (xs : List ℤ). All (Holds xs) path.state.rows) reached.extends.is
-            (All-weaker (HoldsBefore reached.longer) (Holds reached.longer) (λ row. holds_here reached.longer row) path.state.rows reached.whole.holds));
-      })
+      sym reached.whole.exact ∙ ap (λ (xs : List ℤ). length xs) reached.extends.is in (
+        reached.extends.behind,
+        record {
+          columns = subst (λ (k : ℕ). All (λ row. length row.coefs ≡ k) (map (fitted_row path.state.columns) path.state.rows)) columns
+              (rows_have_length path.state.columns path.state.rows);
+          holds = rows_hold (inputs ++ reached.extends.behind) path.state.columns path.state.rows (omega (arith, columns))
+              (subst (λ (xs : List ℤ). All (Holds xs) path.state.rows) reached.extends.is
+              (All-weaker (HoldsBefore reached.longer) (Holds reached.longer) (λ row. holds_here reached.longer row) path.state.rows reached.whole.holds));
+        },
+      )
 
   from_rows : (path : Path (Unit {0})) → Says path → HoldAt inputs (completed_rows path) → is_nonzero (eval c inputs) ≡ true
   from_rows path says (unknowns, hold) =
       let long : length ((inputs ++ unknowns) ++ replicate path.state.columns (pos 0)) ≡ length (inputs ++ unknowns) + path.state.columns =
-        length-append (inputs ++ unknowns) (replicate path.state.columns (pos 0))
-        ∙ ap (λ (k : ℕ). length (inputs ++ unknowns) + k) (length-replicate path.state.columns (pos 0)) in
+      length-append (inputs ++ unknowns) (replicate path.state.columns (pos 0))
+      ∙ ap (λ (k : ℕ). length (inputs ++ unknowns) + k) (length-replicate path.state.columns (pos 0)) in
       let at : IsPoint ((inputs ++ unknowns) ++ replicate path.state.columns (pos 0)) path.state = record {
         room = omega (arith, long);
         holds = rows_hold_before (inputs ++ unknowns) path.state.columns path.state.rows hold.columns hold.holds;
       } in
       let further : Extends inputs ((inputs ++ unknowns) ++ replicate path.state.columns (pos 0)) =
-        record { behind = unknowns ++ replicate path.state.columns (pos 0); is = append_assoc inputs unknowns (replicate path.state.columns (pos 0)) } in
+      record { behind = unknowns ++ replicate path.state.columns (pos 0); is = append_assoc inputs unknowns (replicate path.state.columns (pos 0)) } in
       (says ((inputs ++ unknowns) ++ replicate path.state.columns (pos 0)) at).1
       (stable inputs ((inputs ++ unknowns) ++ replicate path.state.columns (pos 0)) further begun_have)
 
@@ -102,13 +104,13 @@ module _ (arity : ℕ) (c : Expression) (can : CanEvaluate arity c) (inputs : Li
       → Meets c inputs ↔ SomeOf (HoldAt inputs) (map completed_rows paths)
   both_ways paths collected = (
     λ met. some_of_map (HoldAt inputs) completed_rows paths
-      (some_of_changed (ReachedFrom inputs IsMet) (λ path. HoldAt inputs (completed_rows path)) paths to_rows
+        (some_of_changed (ReachedFrom inputs IsMet) (λ path. HoldAt inputs (completed_rows path)) paths to_rows
         (some_collected (ReachedFrom inputs IsMet) 1024 (condition_walk arity c) paths collected
-          ((met_walk met).complete inputs begun_point begun_have))),
+        ((met_walk met).complete inputs begun_point begun_have))),
     λ some.
-      let found = picked _ paths (both_of _ (λ path. HoldAt inputs (completed_rows path)) paths
+        let found = picked _ paths (both_of _ (λ path. HoldAt inputs (completed_rows path)) paths
         (each_collected Says 1024 (condition_walk arity c) paths collected each_says) (some_from_map (HoldAt inputs) completed_rows paths some)) in
-      from_rows found.0 found.1.0 found.1.1,
+        from_rows found.0 found.1.0 found.1.1,
   )
 
 pub law_of_conditions : LawOfConditions

@@ -97,7 +97,7 @@ module _ (room d : ℕ) (f : Form) (v : ℤ) (some : 1 ≤ d) (state : State) (b
   parts_have point x has is equal = record {
     quotient = λ behind. is behind ∙ equal;
     rest = λ behind. rest_is v (value_at rest (point ++ behind)) d some
-      (rest_value d f quotient (point ++ behind)
+        (rest_value d f quotient (point ++ behind)
         ∙ ap (λ (z : ℤ). z +ℤ (negsuc 0 *ℤ (pos d *ℤ value_at quotient (point ++ behind)))) (has behind)
         ∙ ap (λ (z : ℤ). v +ℤ (negsuc 0 *ℤ (pos d *ℤ z))) (is behind ∙ equal));
   }
@@ -107,15 +107,17 @@ module _ (room d : ℕ) (f : Form) (v : ℤ) (some : 1 ≤ d) (state : State) (b
   one_way : (rows : List Row)
       → ((point : List ℤ) → value_at f point ≡ v → All (Holds point) rows → value_at quotient point ≡ int_div v (pos d))
       → EachArrives (λ path. (point : List ℤ) → IsPoint point path.state → IsPoint point state × (HasValue point f v → HaveParts v d point path.value))
-        (all_joined rows pair (with_column state))
+      (all_joined rows pair (with_column state))
   one_way rows pins =
       each_changed _ _ (all_joined rows pair (with_column state)) (λ path i point at.
-        let u = i point at in
-        let many : suc state.columns ≤ length point = u.0.room in
-        (record { room = omega (arith, many); holds = u.0.holds }, λ has.
-          subst (HaveParts v d point) (sym u.2) (parts_have point (value_at quotient point) has
+      let u = i point at in
+      let many : suc state.columns ≤ length point = u.0.room in (
+        record { room = omega (arith, many); holds = u.0.holds },
+        λ has.
+            subst (HaveParts v d point) (sym u.2) (parts_have point (value_at quotient point) has
             (λ behind. unknown_stays room state.columns point behind below (omega (arith, many)))
-            (pins point (has_here point f v has) u.1))))
+            (pins point (has_here point f v has) u.1)),
+      ))
       (all_joined_joins pair rows (with_column state)).sound
 
   abbrev low : Form
@@ -133,7 +135,7 @@ module _ (room d : ℕ) (f : Form) (v : ℤ) (some : 1 ≤ d) (state : State) (b
       let at_least : pos 0 ≤ℤ v = subst (λ (z : ℤ). pos 0 ≤ℤ z) is ((sign_row-holds NotNegative f point).0 rows.0) in
       let from_zero : pos 0 ≤ℤ value_at rest point = (sign_row-holds NotNegative rest point).0 rows.1 in
       let bound : (value_at rest point +ℤ neg_ℤ (pos d)) <ℤ pos 0 =
-        subst (λ (z : ℤ). z <ℤ pos 0) (moved_value rest (neg_ℤ (pos d)) point) ((sign_row-holds Negative low point).0 rows.2) in
+      subst (λ (z : ℤ). z <ℤ pos 0) (moved_value rest (neg_ℤ (pos d)) point) ((sign_row-holds Negative low point).0 rows.2) in
       (from_zero_is v (value_at quotient point) (value_at rest point) d some (left_at point is) at_least from_zero bound).0
 
   pins_below_zero : (point : List ℤ) → value_at f point ≡ v → All (Holds point) (rows_below_zero (pos d) f rest) → value_at quotient point ≡ int_div v (pos d)
@@ -142,7 +144,7 @@ module _ (room d : ℕ) (f : Form) (v : ℤ) (some : 1 ≤ d) (state : State) (b
       let under : v <ℤ pos 0 = subst (λ (z : ℤ). z <ℤ pos 0) is ((sign_row-holds Negative f point).0 rows.0) in
       let to_zero : value_at rest point ≤ℤ pos 0 = (sign_row-holds NotPositive rest point).0 rows.1 in
       let bound : pos 0 <ℤ (value_at rest point +ℤ pos d) =
-        subst (λ (z : ℤ). pos 0 <ℤ z) (moved_value rest (pos d) point) ((sign_row-holds Positive high point).0 rows.2) in
+      subst (λ (z : ℤ). pos 0 <ℤ z) (moved_value rest (pos d) point) ((sign_row-holds Positive high point).0 rows.2) in
       (below_zero_is v (value_at quotient point) (value_at rest point) d some (left_at point is) under to_zero bound).0
 
   -- ---- from a whole point some way arrives
@@ -190,7 +192,7 @@ module _ (room d : ℕ) (f : Form) (v : ℤ) (some : 1 ≤ d) (state : State) (b
         (λ behind. (sign_row-holds NotNegative f (longer ++ behind)).1 (subst (λ (z : ℤ). pos 0 ≤ℤ z) (sym (dividend_has behind)) sign))
         (λ behind. (sign_row-holds NotNegative rest (longer ++ behind)).1 (from_zero_bounds v _ d some (left behind) sign).0)
         (λ behind. (sign_row-holds Negative low (longer ++ behind)).1
-          (subst (λ (z : ℤ). z <ℤ pos 0) (sym (moved_value rest (neg_ℤ (pos d)) (longer ++ behind))) (from_zero_bounds v _ d some (left behind) sign).1))
+        (subst (λ (z : ℤ). z <ℤ pos 0) (sym (moved_value rest (neg_ℤ (pos d)) (longer ++ behind))) (from_zero_bounds v _ d some (left behind) sign).1))
 
     below_zero_hold : v <ℤ pos 0 → All (HoldsBefore longer) (rows_below_zero (pos d) f rest)
     below_zero_hold sign =
@@ -198,7 +200,7 @@ module _ (room d : ℕ) (f : Form) (v : ℤ) (some : 1 ≤ d) (state : State) (b
         (λ behind. (sign_row-holds Negative f (longer ++ behind)).1 (subst (λ (z : ℤ). z <ℤ pos 0) (sym (dividend_has behind)) sign))
         (λ behind. (sign_row-holds NotPositive rest (longer ++ behind)).1 (below_zero_bounds v _ d some (left behind) sign).0)
         (λ behind. (sign_row-holds Positive high (longer ++ behind)).1
-          (subst (λ (z : ℤ). pos 0 <ℤ z) (sym (moved_value rest (pos d) (longer ++ behind))) (below_zero_bounds v _ d some (left behind) sign).1))
+        (subst (λ (z : ℤ). pos 0 <ℤ z) (sym (moved_value rest (pos d) (longer ++ behind))) (below_zero_bounds v _ d some (left behind) sign).1))
 
     by_sign : (pos 0 ≤ℤ v) ⊎ (v <ℤ pos 0) → SomeArrives (ReachedFrom point (HaveParts v d)) (two_ways (pos d) f quotient rest (with_column state))
     by_sign (inl sign) =
@@ -206,7 +208,7 @@ module _ (room d : ℕ) (f : Form) (v : ℤ) (some : 1 ≤ d) (state : State) (b
         (found (rows_from_zero (pos d) f rest) (from_zero_hold sign))
     by_sign (inr sign) =
         some_right _ (all_joined (rows_from_zero (pos d) f rest) pair (with_column state))
-            (all_joined (rows_below_zero (pos d) f rest) pair (with_column state))
+        (all_joined (rows_below_zero (pos d) f rest) pair (with_column state))
         (found (rows_below_zero (pos d) f rest) (below_zero_hold sign))
 
   sign_of : (z : ℤ) → (pos 0 ≤ℤ z) ⊎ (z <ℤ pos 0)
@@ -216,11 +218,11 @@ module _ (room d : ℕ) (f : Form) (v : ℤ) (some : 1 ≤ d) (state : State) (b
   pub divided_splits : Splits state (λ point. HasValue point f v) (HaveParts v d) (divided_by room true (pos d) f state)
   divided_splits = record {
     sound = each_made _ (with_column state) _ (multiple_of (pos d) quotient) (each_made _ (with_column state) _ rest
-      (each_append _ (all_joined (rows_from_zero (pos d) f rest) pair (with_column state))
-          (all_joined (rows_below_zero (pos d) f rest) pair (with_column state))
+        (each_append _ (all_joined (rows_from_zero (pos d) f rest) pair (with_column state))
+        (all_joined (rows_below_zero (pos d) f rest) pair (with_column state))
         (one_way (rows_from_zero (pos d) f rest) pins_from_zero) (one_way (rows_below_zero (pos d) f rest) pins_below_zero)));
     complete = λ point at has. some_made _ (with_column state) _ (multiple_of (pos d) quotient) (some_made _ (with_column state) _ rest
-      (by_sign point at has (sign_of v)));
+        (by_sign point at has (sign_of v)));
   }
 
 -- ---- constants are decided, and 1 divides without rest
@@ -234,17 +236,17 @@ by_form : (room d : ℕ) (f : Form) (v : ℤ) → 1 ≤ d → (state : State) (c
     → Splits state (λ point. HasValue point f v) (HaveParts v d) (parted_by room constant one (pos d) f state)
 by_form room d f v some state true one none is =
     gives_splits state (λ point. HasValue point f v) (HaveParts v d) _ (λ point has.
-      let equal : f.constant ≡ v = sym (value_at-constant f point none) ∙ has_here point f v has in
-      record {
-        quotient = constant_has point room (int_div f.constant (pos d)) (int_div v (pos d)) (ap (λ (z : ℤ). int_div z (pos d)) equal);
-        rest = constant_has point room (int_rem f.constant (pos d)) (int_rem v (pos d)) (ap (λ (z : ℤ). int_rem z (pos d)) equal);
-      })
+    let equal : f.constant ≡ v = sym (value_at-constant f point none) ∙ has_here point f v has in
+    record {
+      quotient = constant_has point room (int_div f.constant (pos d)) (int_div v (pos d)) (ap (λ (z : ℤ). int_div z (pos d)) equal);
+      rest = constant_has point room (int_rem f.constant (pos d)) (int_rem v (pos d)) (ap (λ (z : ℤ). int_rem z (pos d)) equal);
+    })
 by_form room d f v some state false true none is =
     gives_splits state (λ point. HasValue point f v) (HaveParts v d) _ (λ point has.
-      subst (λ (k : ℕ). HaveParts v k point (parts f (constant_form room (pos 0)))) (sym (eqb-true d 1 is)) (record {
-        quotient = λ behind. has behind ∙ (by_one v).0;
-        rest = constant_has point room (pos 0) (int_rem v (pos 1)) (by_one v).1;
-      }))
+    subst (λ (k : ℕ). HaveParts v k point (parts f (constant_form room (pos 0)))) (sym (eqb-true d 1 is)) (record {
+      quotient = λ behind. has behind ∙ (by_one v).0;
+      rest = constant_has point room (pos 0) (int_rem v (pos 1)) (by_one v).1;
+    }))
 by_form room d f v some state false false none is = by_room room d f v some state (ltb state.columns room) refl
 
 pub parted_splits : (room d : ℕ) (f : Form) (v : ℤ) (state : State) → 1 ≤ d

@@ -45,7 +45,7 @@ opposite v = omega (arith, ints)
 has_difference : (point : List ℤ) (f g : Form) (u v : ℤ) → HasValue point f u → HasValue point g v → HasValue point (difference_of f g) (u -ℤ v)
 has_difference point f g u v first second =
     has_same point (difference_of f g) _ _ (less_once u v)
-        (has_sum point f (multiple_of (negsuc 0) g) u (negsuc 0 *ℤ v) first (has_multiple point (negsuc 0) g v second))
+    (has_sum point f (multiple_of (negsuc 0) g) u (negsuc 0 *ℤ v) first (has_multiple point (negsuc 0) g v second))
 
 -- ---- tests of forms
 
@@ -58,7 +58,7 @@ as_value_splits room state Q answer walk splits =
     onward_splits (λ point f. HasValue point f (test_value answer)) (λ given next. gives (test_form room given) next)
     state Q (λ point given. given ≡ answer) walk splits
     (λ given next. gives_splits next (λ point. given ≡ answer) (λ point f. HasValue point f (test_value answer)) (test_form room given)
-      (λ point is. has_test point room answer given is))
+    (λ point is. has_test point room answer given is))
 
 split_tests : (test : ℤ → Bool) (options : List (Sign × Bool)) → Covers options test → (state : State) (Q : List ℤ → Type 0) (f : Form) (v : ℤ)
     → ((point : List ℤ) → Q point → HasValue point f v) → Splits state Q (λ point answer. answer ≡ test v) (split options f state)
@@ -93,21 +93,21 @@ compared_splits room options test covers f g u v answer is state =
     state (Values f g u v) (λ point d. HasValue point d (u -ℤ v)) (made (difference_of f g) state)
     (made_splits state (Values f g u v) (λ point d. HasValue point d (u -ℤ v)) (difference_of f g) (λ point have. has_difference point f g u v have.0 have.1))
     (λ d next. as_value_splits room next (λ point. HasValue point d (u -ℤ v)) answer (split options d next)
-      (changed next (λ point. HasValue point d (u -ℤ v)) (λ point. HasValue point d (u -ℤ v)) (λ point given. given ≡ test (u -ℤ v))
-        (λ point given. given ≡ answer) (split options d next) (λ point p. p) (λ given point longer x p equal. equal ∙ is)
-        (split_tests test options covers next (λ point. HasValue point d (u -ℤ v)) d (u -ℤ v) (λ point p. p))))
+    (changed next (λ point. HasValue point d (u -ℤ v)) (λ point. HasValue point d (u -ℤ v)) (λ point given. given ≡ test (u -ℤ v))
+    (λ point given. given ≡ answer) (split options d next) (λ point p. p) (λ given point longer x p equal. equal ∙ is)
+    (split_tests test options covers next (λ point. HasValue point d (u -ℤ v)) d (u -ℤ v) (λ point p. p))))
 
 product_splits : (f g : Form) (u v : ℤ) (state : State) (first second : Bool) → is_constant f ≡ first → is_constant g ≡ second
     → Splits state (Values f g u v) (λ point d. HasValue point d (u *ℤ v))
-      (product_made (cond first (Some (multiple_of f.constant g)) (cond second (Some (multiple_of g.constant f)) None)) state)
+    (product_made (cond first (Some (multiple_of f.constant g)) (cond second (Some (multiple_of g.constant f)) None)) state)
 product_splits f g u v state true second none is =
     made_splits state (Values f g u v) (λ point d. HasValue point d (u *ℤ v)) (multiple_of f.constant g) (λ point have.
-      let constant : f.constant ≡ u = sym (value_at-constant f point none) ∙ has_here point f u have.0 in
-      has_same point (multiple_of f.constant g) _ _ (ap (λ (z : ℤ). z *ℤ v) constant) (has_multiple point f.constant g v have.1))
+    let constant : f.constant ≡ u = sym (value_at-constant f point none) ∙ has_here point f u have.0 in
+    has_same point (multiple_of f.constant g) _ _ (ap (λ (z : ℤ). z *ℤ v) constant) (has_multiple point f.constant g v have.1))
 product_splits f g u v state false true is none =
     made_splits state (Values f g u v) (λ point d. HasValue point d (u *ℤ v)) (multiple_of g.constant f) (λ point have.
-      let constant : g.constant ≡ v = sym (value_at-constant g point none) ∙ has_here point g v have.1 in
-      has_same point (multiple_of g.constant f) _ _ (ap (λ (z : ℤ). z *ℤ u) constant ∙ *ℤ_comm v u) (has_multiple point g.constant f u have.0))
+    let constant : g.constant ≡ v = sym (value_at-constant g point none) ∙ has_here point g v have.1 in
+    has_same point (multiple_of g.constant f) _ _ (ap (λ (z : ℤ). z *ℤ u) constant ∙ *ℤ_comm v u) (has_multiple point g.constant f u have.0))
 product_splits f g u v state false false is is' = stops_splits state (Values f g u v) (λ point d. HasValue point d (u *ℤ v)) _
 
 -- ---- walks, where something holds of the points that stays at longer ones
@@ -130,7 +130,7 @@ module _ (room : ℕ) (P : List ℤ → Type 0) (stable : IsStable P) where
   condition_splits part v means state =
       carried state P (λ point answer. answer ≡ is_nonzero v) (condition part state) stable
       (onward_splits (λ point answer. answer ≡ is_nonzero v) tested state P (λ point f. HasValue point f v) (part state) (means state)
-        (λ f next. tested_tests (λ point. HasValue point f v) f v (λ point has. has) next (is_constant f) refl))
+      (λ f next. tested_tests (λ point. HasValue point f v) f v (λ point has. has) next (is_constant f) refl))
 
   both_means : (first second : Part) (u v t : ℤ) (make : Form → Form → State → Walk Form) → Means first u → Means second v
       → ((f g : Form) (state : State) → Splits state (Values f g u v) (λ point d. HasValue point d t) (make f g state))
@@ -139,10 +139,10 @@ module _ (room : ℕ) (P : List ℤ → Type 0) (stable : IsStable P) where
       onward_splits (λ point d. HasValue point d t) (λ f next. onward (second next) (λ g last. make f g last))
       state P (λ point f. P point × HasValue point f u) (first state) (carried state P (λ point f. HasValue point f u) (first state) stable (means state))
       (λ f next. onward_splits (λ point d. HasValue point d t) (λ g last. make f g last)
-        next (λ point. P point × HasValue point f u) (λ point g. HasValue point f u × HasValue point g v) (second next)
-        (changed next P (λ point. P point × HasValue point f u) (λ point g. HasValue point g v) (λ point g. HasValue point f u × HasValue point g v)
-          (second next) (λ point p. p.0) (λ g point longer x p has. (has_longer point longer f u x p.1, has)) (means' next))
-        (λ g last. makes f g last))
+      next (λ point. P point × HasValue point f u) (λ point g. HasValue point f u × HasValue point g v) (second next)
+      (changed next P (λ point. P point × HasValue point f u) (λ point g. HasValue point g v) (λ point g. HasValue point f u × HasValue point g v)
+      (second next) (λ point p. p.0) (λ g point longer x p has. (has_longer point longer f u x p.1, has)) (means' next))
+      (λ g last. makes f g last))
 
   unary_splits : (op : UnOp) (f : Form) (v : ℤ) (state : State)
       → Splits state (λ point. HasValue point f v) (λ point d. HasValue point d (unary_value op v)) (unary_made room op f state)
@@ -186,7 +186,7 @@ module _ (room : ℕ) (P : List ℤ → Type 0) (stable : IsStable P) where
   test_means part v means state =
       as_value_splits room state P (is_nonzero v) (condition part state)
       (changed state P P (λ point answer. P point × (answer ≡ is_nonzero v)) (λ point answer. answer ≡ is_nonzero v) (condition part state)
-        (λ point p. p) (λ answer point longer x p is. is.1) (condition_splits part v means state))
+      (λ point p. p) (λ answer point longer x p is. is.1) (condition_splits part v means state))
 
   constant_means : (answer : Bool) → Means (gives (test_form room answer)) (test_value answer)
   constant_means answer state =
@@ -203,8 +203,8 @@ module _ (room : ℕ) (P : List ℤ → Type 0) (stable : IsStable P) where
       onward_splits (λ point f. HasValue point f value) (λ f next. onward (parted room (pos d) f next) (λ p last. gives (pick p) last))
       state P (λ point f. HasValue point f v) (part state) (means state)
       (λ f next. onward_splits (λ point g. HasValue point g value) (λ p last. gives (pick p) last)
-        next (λ point. HasValue point f v) (HaveParts v d) (parted room (pos d) f next) (parted_splits room d f v next some)
-        (λ p last. gives_splits last (λ point. HaveParts v d point p) (λ point g. HasValue point g value) (pick p) (λ point have. picks point p have)))
+      next (λ point. HasValue point f v) (HaveParts v d) (parted room (pos d) f next) (parted_splits room d f v next some)
+      (λ p last. gives_splits last (λ point. HaveParts v d point p) (λ point g. HasValue point g value) (pick p) (λ point have. picks point p have)))
 
   quotient_means : (part : Part) (v : ℤ) (f : Expression) (env : List ℤ) → IsDivisor f → Means part v
       → (other : Part) → Means (binary_walk room Div part other (divisor_of f)) (int_div v (eval f env))
@@ -236,11 +236,11 @@ module _ (room : ℕ) (P : List ℤ → Type 0) (stable : IsStable P) where
   binary_means Add p q f env u divisor means means' =
       both_means p q u (eval f env) (u +ℤ eval f env) (λ g h next. made (sum_of g h) next) means means'
       (λ g h state. made_splits state (Values g h u (eval f env)) (λ point d. HasValue point d (u +ℤ eval f env)) (sum_of g h)
-        (λ point have. has_sum point g h u (eval f env) have.0 have.1))
+      (λ point have. has_sum point g h u (eval f env) have.0 have.1))
   binary_means Sub p q f env u divisor means means' =
       both_means p q u (eval f env) (u -ℤ eval f env) (λ g h next. made (difference_of g h) next) means means'
       (λ g h state. made_splits state (Values g h u (eval f env)) (λ point d. HasValue point d (u -ℤ eval f env)) (difference_of g h)
-        (λ point have. has_difference point g h u (eval f env) have.0 have.1))
+      (λ point have. has_difference point g h u (eval f env) have.0 have.1))
   binary_means Less p q f env u divisor means means' =
       comparison_means negative_signs is_negative negative_covers p q u (eval f env) (int_lt u (eval f env)) (sym (less_is u (eval f env))) means means'
   binary_means LessEq p q f env u divisor means means' =
@@ -261,12 +261,12 @@ module _ (room : ℕ) (P : List ℤ → Type 0) (stable : IsStable P) where
       same_means (binary_walk room And p q (divisor_of f)) (cond (is_nonzero u) (test_value (is_nonzero (eval f env))) (test_value false))
       (test_value (is_nonzero u && is_nonzero (eval f env))) (and_is (is_nonzero u) (is_nonzero (eval f env)))
       (choice_means p (test_made room q) (gives (test_form room false)) u (test_value (is_nonzero (eval f env))) (test_value false)
-        means (test_means q (eval f env) means') (constant_means false))
+      means (test_means q (eval f env) means') (constant_means false))
   binary_means Or p q f env u divisor means means' =
       same_means (binary_walk room Or p q (divisor_of f)) (cond (is_nonzero u) (test_value true) (test_value (is_nonzero (eval f env))))
       (test_value (is_nonzero u || is_nonzero (eval f env))) (or_is (is_nonzero u) (is_nonzero (eval f env)))
       (choice_means p (gives (test_form room true)) (test_made room q) u (test_value true) (test_value (is_nonzero (eval f env)))
-        means (constant_means true) (test_means q (eval f env) means'))
+      means (constant_means true) (test_means q (eval f env) means'))
 
   -- the walk of an expression, where the variables' forms have the values of an environment
   module _ (forms : List Form) (env : List ℤ) (have : (point : List ℤ) → P point → HaveValues point forms env) where

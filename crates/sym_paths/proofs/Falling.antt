@@ -24,7 +24,8 @@ use Rattle.sym_paths.proofs.Walks.{each_append, onward_each}
 
 -- ---- heights
 
-onward_all : {A B : Type 0} (Q : Path B → Type 0) (w : Walk A) (next : A → State → Walk B) → ((a : A) (s : State) → EachArrives Q (next a s)) → EachArrives Q (onward w next)
+onward_all : {A B : Type 0} (Q : Path B → Type 0) (w : Walk A) (next : A → State → Walk B) → ((a : A) (s : State) → EachArrives Q (next a s))
+    → EachArrives Q (onward w next)
 onward_all Q [] next all = tt
 onward_all Q (Arrives p ∷ w) next all = each_append Q (next p.value p.state) (onward w next) (all p.value p.state) (onward_all Q w next all)
 onward_all Q (Stops l ∷ w) next all = onward_all Q w next all
@@ -57,7 +58,8 @@ module _ (room : ℕ) (forms : List Form) where
 
   by_test_lower : (f : Form) (state : State) (one other : Todo) (n : ℕ) → tasks_height one.tasks < n → tasks_height other.tasks < n
       → EachArrives (IsLower n) (by_test room forms f state one other)
-  by_test_lower f state one other n low low' = onward_all (IsLower n) (tested f state) (λ test next. gives (cond test one other) next) (λ test next. (pick test, tt))
+  by_test_lower f state one other n low low' = onward_all (IsLower n) (tested f state) (λ test next. gives (cond test one other) next)
+      (λ test next. (pick test, tt))
     where
       pick : (test : Bool) → tasks_height (cond test one other).tasks < n
       pick true = low
@@ -171,7 +173,8 @@ module _ {A B : Type 0} where
       omega arith
   onward_few (Stops l ∷ w) next few = let others = onward_few w next few in omega arith
 
-  onward_short : (n : ℕ) (w : Walk A) (next : A → State → Walk B) → length w ≤ 1 → 1 ≤ n → ((a : A) (s : State) → length (next a s) ≤ n) → length (onward w next) ≤ n
+  onward_short : (n : ℕ) (w : Walk A) (next : A → State → Walk B) → length w ≤ 1 → 1 ≤ n → ((a : A) (s : State) → length (next a s) ≤ n)
+      → length (onward w next) ≤ n
   onward_short n [] next short some few = omega arith
   onward_short n (Arrives p ∷ []) next short some few =
       let both = length_both (next p.value p.state) [] in
@@ -236,7 +239,8 @@ module _ (room : ℕ) where
 
   ways_few : (d : ℤ) (f quotient rest : Form) (state : State) → length (two_ways d f quotient rest state) ≤ 3
   ways_few d f quotient rest state =
-      let both = length_both (all_joined (rows_from_zero d f rest) (parts quotient rest) state) (all_joined (rows_below_zero d f rest) (parts quotient rest) state) in
+      let both = length_both (all_joined (rows_from_zero d f rest) (parts quotient rest) state)
+      (all_joined (rows_below_zero d f rest) (parts quotient rest) state) in
       let first = all_joined_few (rows_from_zero d f rest) (parts quotient rest) state in
       let second = all_joined_few (rows_below_zero d f rest) (parts quotient rest) state in
       omega arith
@@ -244,9 +248,10 @@ module _ (room : ℕ) where
   divided_few : (test : Bool) (d : ℤ) (f : Form) (state : State) → length (divided_by room test d f state) ≤ 3
   divided_few false d f state = omega arith
   divided_few true d f state =
-      onward_short 3 (made (multiple_of d (unknown room state)) (with_column state)) _ (made_few (multiple_of d (unknown room state)) (with_column state)) (omega arith)
+      onward_short 3 (made (multiple_of d (unknown room state)) (with_column state)) _ (made_few (multiple_of d (unknown room state)) (with_column state))
+      (omega arith)
       (λ whole next. onward_short 3 (made (difference_of f whole) next) _ (made_few (difference_of f whole) next) (omega arith)
-        (λ rest last. ways_few d f (unknown room state) rest last))
+      (λ rest last. ways_few d f (unknown room state) rest last))
 
   parted_few : (none one : Bool) (d : ℤ) (f : Form) (state : State) → length (parted_by room none one d f state) ≤ 3
   parted_few true one d f state = omega arith
@@ -255,26 +260,29 @@ module _ (room : ℕ) where
 
   quotient_few : (d : ℤ) (f : Form) (state : State) → length (quotient_made room d f state) ≤ 3
   quotient_few d f state =
-      let h : length (quotient_made room d f state) ≤ length (parted room d f state) = onward_few (parted room d f state) (λ both last. gives both.quotient last) (λ p s. omega arith) in
+      let h : length (quotient_made room d f state) ≤ length (parted room d f state) = onward_few (parted room d f state)
+      (λ both last. gives both.quotient last) (λ p s. omega arith) in
       let k = parted_few (is_constant f) (eqb (unsigned_abs d) 1) d f state in
       omega arith
 
   rest_few : (d : ℤ) (f : Form) (state : State) → length (rest_made room d f state) ≤ 3
   rest_few d f state =
-      let h : length (rest_made room d f state) ≤ length (parted room d f state) = onward_few (parted room d f state) (λ both last. gives both.rest last) (λ p s. omega arith) in
+      let h : length (rest_made room d f state) ≤ length (parted room d f state) = onward_few (parted room d f state) (λ both last. gives both.rest last)
+      (λ p s. omega arith) in
       let k = parted_few (is_constant f) (eqb (unsigned_abs d) 1) d f state in
       omega arith
 
 module _ (room : ℕ) (forms : List Form) where
   done_few : (stack : List Form) (walk : Walk Form) → length walk ≤ 3 → length (done room forms stack walk) ≤ 3
   done_few stack walk few =
-      let h : length (done room forms stack walk) ≤ length walk = onward_few walk (λ form state. gives (todo [] (form ∷ stack)) state) (λ form state. omega arith) in
+      let h : length (done room forms stack walk) ≤ length walk = onward_few walk (λ form state. gives (todo [] (form ∷ stack)) state)
+      (λ form state. omega arith) in
       omega arith
 
   by_test_few : (f : Form) (state : State) (one other : Todo) → length (by_test room forms f state one other) ≤ 3
   by_test_few f state one other =
       let h : length (by_test room forms f state one other) ≤ length (tested f state) =
-        onward_few (tested f state) (λ test next. gives (cond test one other) next) (λ test next. omega arith) in
+      onward_few (tested f state) (λ test next. gives (cond test one other) next) (λ test next. omega arith) in
       let k = tested_few (is_constant f) f state in
       omega arith
 
@@ -319,7 +327,8 @@ module _ (room : ℕ) (graph : FlowGraph) where
   used_few left goal forms [] state = omega arith
   used_few left (ToSet x next) forms (f ∷ stack) state = let h = entered_few left next (set forms x f) state in omega arith
   used_few left (ToBranch first second) forms (f ∷ stack) state =
-      let h = onward_few (tested f state) (λ test. entered room graph left (cond test first second) forms) (λ test next. entered_few left (cond test first second) forms next) in
+      let h = onward_few (tested f state) (λ test. entered room graph left (cond test first second) forms)
+      (λ test next. entered_few left (cond test first second) forms next) in
       let k = tested_few (is_constant f) f state in
       omega arith
   used_few left ToReturn forms (f ∷ stack) state = omega arith
@@ -328,7 +337,7 @@ module _ (room : ℕ) (graph : FlowGraph) where
   task_few p [] state = used_few p.left p.goal p.forms p.stack state
   task_few p (task ∷ tasks) state =
       let h : length (advanced_by room graph p (task ∷ tasks) state) ≤ length (step room p.forms task p.stack state) =
-        onward_few (step room p.forms task p.stack state) (λ t next. gives (Goes (with_todo room graph p tasks t)) next) (λ t next. omega arith) in
+      onward_few (step room p.forms task p.stack state) (λ t next. gives (Goes (with_todo room graph p tasks t)) next) (λ t next. omega arith) in
       let k = step_few room p.forms task p.stack state in
       omega arith
 
@@ -347,11 +356,13 @@ module _ (room : ℕ) (graph : FlowGraph) where
   four_grows (suc m) zero le = absurd (omega arith)
   four_grows (suc m) (suc n) le = let k = four_grows m n (omega arith) in omega arith
 
-  weight_by : (n : ℕ) (v : Walk Move) → EachArrives (λ path. move_height graph path.value < suc n) v → (k : ℕ) → length v ≤ k → weights graph v ≤ times k (four n)
+  weight_by : (n : ℕ) (v : Walk Move) → EachArrives (λ path. move_height graph path.value < suc n) v → (k : ℕ) → length v ≤ k
+      → weights graph v ≤ times k (four n)
   weight_by n [] low k few = omega arith
   weight_by n (x ∷ v) low zero few = absurd (omega arith)
   weight_by n (Arrives p ∷ v) low (suc k) few =
-      let here : four (move_height graph p.value) ≤ four n = four_grows (move_height graph p.value) n (let q : move_height graph p.value < suc n = low.0 in omega arith) in
+      let below : move_height graph p.value < suc n = low.0 in
+      let here : four (move_height graph p.value) ≤ four n = four_grows (move_height graph p.value) n (omega arith) in
       let others = weight_by n v low.1 k (omega arith) in
       omega arith
   weight_by n (Stops l ∷ v) low (suc k) few =

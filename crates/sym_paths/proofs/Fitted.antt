@@ -15,7 +15,7 @@ use Rattle.sym_paths.specs.Cases.{fitted, fitted_row, fitted_form}
 pub length_fitted : (n : ℕ) (numbers : List ℤ) → length (fitted n numbers) ≡ n
 length_fitted n numbers =
     let long : length (numbers ++ replicate n (pos 0)) ≡ length numbers + n =
-      length-append numbers (replicate n (pos 0)) ∙ ap (λ (k : ℕ). length numbers + k) (length-replicate n (pos 0)) in
+    length-append numbers (replicate n (pos 0)) ∙ ap (λ (k : ℕ). length numbers + k) (length-replicate n (pos 0)) in
     length-take-le n (numbers ++ replicate n (pos 0)) (omega (arith, long))
 
 no_numbers : (coefs : List ℤ) → dot coefs [] ≡ pos 0
@@ -94,21 +94,21 @@ pub rows_hold_before : (point : List ℤ) (n : ℕ) (rows : List Row) → All (�
 rows_hold_before point n [] lengths hold = All-nil (Holds (point ++ replicate n (pos 0)))
 rows_hold_before point n (row ∷ rows) lengths hold =
     let here : length (fitted n row.coefs) ≡ length point =
-      All-head (λ (r : Row). length r.coefs ≡ length point) (fitted_row n row) (map (fitted_row n) rows) lengths in
+    All-head (λ (r : Row). length r.coefs ≡ length point) (fitted_row n row) (map (fitted_row n) rows) lengths in
     let exact = length_fitted n row.coefs in
     let first = (holds_fitted n row point (omega (arith, here, exact))).0 (All-head (Holds point) (fitted_row n row) (map (fitted_row n) rows) hold) in
     All-cons (Holds (point ++ replicate n (pos 0))) row rows (holds_more row point n first)
     (rows_hold_before point n rows (All-tail (λ (r : Row). length r.coefs ≡ length point) (fitted_row n row) (map (fitted_row n) rows) lengths)
-      (All-tail (Holds point) (fitted_row n row) (map (fitted_row n) rows) hold))
+    (All-tail (Holds point) (fitted_row n row) (map (fitted_row n) rows) hold))
 
 pub values_before : (point : List ℤ) (n : ℕ) (forms : List Form) → All (λ form. length form.coefs ≡ length point) (map (fitted_form n) forms)
     → map (λ (f : Form). value_at f point) (map (fitted_form n) forms) ≡ map (λ (f : Form). value_at f (point ++ replicate n (pos 0))) forms
 values_before point n [] lengths = refl
 values_before point n (form ∷ forms) lengths =
     let here : length (fitted n form.coefs) ≡ length point =
-      All-head (λ (f : Form). length f.coefs ≡ length point) (fitted_form n form) (map (fitted_form n) forms) lengths in
+    All-head (λ (f : Form). length f.coefs ≡ length point) (fitted_form n form) (map (fitted_form n) forms) lengths in
     let exact = length_fitted n form.coefs in
     ap (λ (z : ℤ). z ∷ map (λ (f : Form). value_at f point) (map (fitted_form n) forms))
-      (value_fitted n form point (omega (arith, here, exact)) ∙ sym (value_more form point n))
+    (value_fitted n form point (omega (arith, here, exact)) ∙ sym (value_more form point n))
     ∙ ap (λ (zs : List ℤ). value_at form (point ++ replicate n (pos 0)) ∷ zs)
-      (values_before point n forms (All-tail (λ (f : Form). length f.coefs ≡ length point) (fitted_form n form) (map (fitted_form n) forms) lengths))
+    (values_before point n forms (All-tail (λ (f : Form). length f.coefs ≡ length point) (fitted_form n form) (map (fitted_form n) forms) lengths))

@@ -69,7 +69,7 @@ module _ (room : ℕ) (graph : FlowGraph) (is : IsFlowGraph graph) where
   one_more node next env env' op op_is goes l values meets = record {
     steps = suc meets.steps;
     is = ap (λ (o : Option Operation). met_at graph meets.steps o env) op_is
-      ∙ ap (λ (t : Turn). seen_turn always None at_mark at_exit graph (seen_from always None at_mark at_exit graph meets.steps) 0 t) goes ∙ meets.is;
+        ∙ ap (λ (t : Turn). seen_turn always None at_mark at_exit graph (seen_from always None at_mark at_exit graph meets.steps) 0 t) goes ∙ meets.is;
   }
 
   further : (node next : ℕ) (env env' : List ℤ) (op : Operation) → operation_at graph node ≡ Some op → turn op env ≡ Goes next env'
@@ -100,12 +100,12 @@ module _ (room : ℕ) (graph : FlowGraph) (is : IsFlowGraph graph) where
       onward_splits (EndsRight graph node env) (λ value. walk_from room graph n next (set forms x value))
       state (λ point. HaveValues point forms env) (λ point f. HaveValues point forms env × HasValue point f (eval e env)) (symbolic room forms e state)
       (carried state (λ point. HaveValues point forms env) (λ point f. HasValue point f (eval e env)) (symbolic room forms e state) (stable forms env)
-        (symbolic_means room (λ point. HaveValues point forms env) (stable forms env) forms env (λ point have. have) graph.vars e fit.1 state))
+      (symbolic_means room (λ point. HaveValues point forms env) (stable forms env) forms env (λ point have. have) graph.vars e fit.1 state))
       (λ f after. changed after (λ point. HaveValues point (set forms x f) (set env x (eval e env)))
-        (λ point. HaveValues point forms env × HasValue point f (eval e env)) (EndsRight graph next (set env x (eval e env))) (EndsRight graph node env)
-        (walk_from room graph n next (set forms x f) after) (λ point have. have_set point forms env x f (eval e env) have.0 have.1)
-        (λ end point longer x' have right. further node next env (set env x (eval e env)) (Set x e next) o_is refl longer end right)
-        (go next fit.2.0 (by_enough enough fit.2) (set forms x f) (set env x (eval e env)) after))
+      (λ point. HaveValues point forms env × HasValue point f (eval e env)) (EndsRight graph next (set env x (eval e env))) (EndsRight graph node env)
+      (walk_from room graph n next (set forms x f) after) (λ point have. have_set point forms env x f (eval e env) have.0 have.1)
+      (λ end point longer x' have right. further node next env (set env x (eval e env)) (Set x e next) o_is refl longer end right)
+      (go next fit.2.0 (by_enough enough fit.2) (set forms x f) (set env x (eval e env)) after))
     where
       by_enough : IsEnough graph (suc n) node → Leads (operation_at graph) (length graph.ops) node next → IsEnough graph n next
       by_enough (inl far) leads = enough_behind graph n node next far leads
@@ -116,20 +116,21 @@ module _ (room : ℕ) (graph : FlowGraph) (is : IsFlowGraph graph) where
       state (λ point. HaveValues point forms env) (λ point answer. HaveValues point forms env × (answer ≡ is_nonzero (eval e env)))
       (condition (symbolic room forms e) state)
       (condition_splits room (λ point. HaveValues point forms env) (stable forms env) (symbolic room forms e) (eval e env)
-        (symbolic_means room (λ point. HaveValues point forms env) (stable forms env) forms env (λ point have. have) graph.vars e fit.0) state)
+      (symbolic_means room (λ point. HaveValues point forms env) (stable forms env) forms env (λ point have. have) graph.vars e fit.0) state)
       (λ test after. changed after (λ point. HaveValues point forms env) (λ point. HaveValues point forms env × (test ≡ is_nonzero (eval e env)))
-        (EndsRight graph (cond test first second) env) (EndsRight graph node env) (walk_from room graph n (cond test first second) forms after)
-        (λ point have. have.0)
-        (λ end point longer x have right. further node (cond test first second) env env (Branch e first second) o_is
-          (ap (λ (t : Bool). Goes (cond t first second) env) (sym have.1)) longer end right)
-        (taken test fit.1 fit.2 after))
+      (EndsRight graph (cond test first second) env) (EndsRight graph node env) (walk_from room graph n (cond test first second) forms after)
+      (λ point have. have.0)
+      (λ end point longer x have right. further node (cond test first second) env env (Branch e first second) o_is
+      (ap (λ (t : Bool). Goes (cond t first second) env) (sym have.1)) longer end right)
+      (taken test fit.1 fit.2 after))
     where
       by_enough : (next : ℕ) → IsEnough graph (suc n) node → Leads (operation_at graph) (length graph.ops) node next → IsEnough graph n next
       by_enough next (inl far) leads = enough_behind graph n node next far leads
       by_enough next (inr mark) leads = absurd (subst IsMark o_is mark.1)
+
       taken : (test : Bool) → Leads (operation_at graph) (length graph.ops) node first → Leads (operation_at graph) (length graph.ops) node second
           → (after : State) → Splits after (λ point. HaveValues point forms env) (EndsRight graph (cond test first second) env)
-            (walk_from room graph n (cond test first second) forms after)
+          (walk_from room graph n (cond test first second) forms after)
       taken true to_first to_second after = go first to_first.0 (by_enough first enough to_first) forms env after
       taken false to_first to_second after = go second to_second.0 (by_enough second enough to_second) forms env after
   operation_splits n node (Some (Mark mark next)) o_is within enough go forms env state =

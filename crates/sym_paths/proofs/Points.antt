@@ -107,7 +107,7 @@ values_are point [] (v ∷ values) have = absurd have
 values_are point (f ∷ forms) [] have = absurd have
 values_are point (f ∷ forms) (v ∷ values) have =
     ap (λ (z : ℤ). z ∷ map (λ (f : Form). value_at f point) forms) (has_here point f v have.0)
-        ∙ ap (λ (vs : List ℤ). v ∷ vs) (values_are point forms values have.1)
+    ∙ ap (λ (vs : List ℤ). v ∷ vs) (values_are point forms values have.1)
 
 -- ---- the variables of the start
 
@@ -132,6 +132,7 @@ pub variables_have : (room j n : ℕ) (values : List ℤ) → j + n ≡ length v
 variables_have room j zero values is fits = subst (λ (vs : List ℤ). HaveValues values [] vs) (sym (drop_none values j (omega (arith, is)))) tt
 variables_have room j (suc n) values is fits =
     let below : j < length values = omega (arith, is) in
-    subst (λ (vs : List ℤ). HaveValues values (variables_from room j (suc n)) vs) (sym (drop_one values j below))
-    ((λ behind. value_at-variable_form room j (values ++ behind) (omega (arith, below, fits)) ∙ get_in values behind j below),
-      variables_have room (suc j) n values (omega (arith, is)) fits)
+    subst (λ (vs : List ℤ). HaveValues values (variables_from room j (suc n)) vs) (sym (drop_one values j below)) (
+      (λ behind. value_at-variable_form room j (values ++ behind) (omega (arith, below, fits)) ∙ get_in values behind j below),
+      variables_have room (suc j) n values (omega (arith, is)) fits,
+    )

@@ -15,22 +15,10 @@ use Rattle.lin_terms.specs.Makes.{fitting}
 use Rattle.lin_terms.specs.Sign.{sign_row, tight_fitting}
 use Rattle.flow_graph.specs.Operation.{Operation, Set, Branch, Mark, Return}
 use Rattle.flow_graph.specs.FlowGraph.{FlowGraph, operation_at}
-use Rattle.sym_paths.specs.Walk.{State, Path, Arrival, Arrives, Stops, Walk, gives, onward}
+use Rattle.sym_paths.specs.Walk.{State, Path, Arrival, Arrives, Stops, Walk, gives, onward, behind, arrival_behind, walk_behind}
 use Rattle.sym_paths.specs.Rows.{holds_alone, with_row, decided, joining, joined_tight, joined, all_joined, split, judged, made}
 use Rattle.sym_paths.specs.Symbolic.{nonzero_signs, zero_signs, negative_signs, not_positive_signs, positive_signs, not_negative_signs, tested_by, tested, negated_by, negated, Parts, parts, rows_from_zero, rows_below_zero, two_ways, with_column, unknown, divided_by, parted_by, parted, product_made, test_form, as_value, compared, unary_made, binary_made, quotient_made, rest_made}
 use Rattle.sym_paths.specs.Machine.{Task, Value, Unary, Binary, Quotient, Rest, Test, AndThen, OrElse, Choose, Todo, todo, operator_tasks, done, by_test, step, Goal, ToSet, ToBranch, ToReturn, Pending, Move, Goes, Ends, entered_by, entered, used, with_todo, advanced_by, advanced}
-
--- the state with these rows in front
-abbrev pub behind : List Row → State → State
-behind front state = record { rows = front ++ state.rows; columns = state.columns }
-
--- what is met, with these rows in front
-abbrev pub arrival_behind : {A : Type 0} → List Row → Arrival A → Arrival A
-arrival_behind front (Arrives path) = Arrives (record { state = behind front path.state; value = path.value })
-arrival_behind front (Stops limit) = Stops limit
-
-abbrev pub walk_behind : {A : Type 0} → List Row → Walk A → Walk A
-walk_behind front walk = map (arrival_behind front) walk
 
 module _ (front : List Row) where
   append_behind : {A : Type 0} (v w : Walk A) → walk_behind front (v ++ w) ≡ walk_behind front v ++ walk_behind front w
@@ -60,10 +48,12 @@ module _ (front : List Row) where
         → gives value (record { rows = rows; columns = columns }) ≡ gives value (record { rows = other; columns = columns })
     arrives_with rows other columns value is = ap (λ (t : List Row). gives value (record { rows = t; columns = columns })) is
 
-    joining_behind : (none : Bool) (row : Row) (value : A) (state : State) → walk_behind front (joining none row value state) ≡ joining none row value (behind front state)
+    joining_behind : (none : Bool) (row : Row) (value : A) (state : State)
+        → walk_behind front (joining none row value state) ≡ joining none row value (behind front state)
     joining_behind true row value state = decided_behind (holds_alone row) value state
     joining_behind false row value state =
-        arrives_with (front ++ (state.rows ++ row ∷ [])) ((front ++ state.rows) ++ row ∷ []) state.columns value (sym (append_assoc front state.rows (row ∷ [])))
+        arrives_with (front ++ (state.rows ++ row ∷ []))
+        ((front ++ state.rows) ++ row ∷ []) state.columns value (sym (append_assoc front state.rows (row ∷ [])))
 
     tight_behind : (o : Option Row) (value : A) (state : State) → walk_behind front (joined_tight o value state) ≡ joined_tight o value (behind front state)
     tight_behind None value state = refl
@@ -79,7 +69,8 @@ module _ (front : List Row) where
         ∙ ap (λ (t : Walk A). t ++ walk_behind front (split options f state)) (joined_behind (sign_row option.0 f) option.1 state)
         ∙ ap (λ (t : Walk A). joined (sign_row option.0 f) option.1 (behind front state) ++ t) (split_behind options f state)
 
-  all_joined_behind : {A : Type 0} (rows : List Row) (value : A) (state : State) → walk_behind front (all_joined rows value state) ≡ all_joined rows value (behind front state)
+  all_joined_behind : {A : Type 0} (rows : List Row) (value : A) (state : State)
+      → walk_behind front (all_joined rows value state) ≡ all_joined rows value (behind front state)
   all_joined_behind [] value state = refl
   all_joined_behind (row ∷ rows) value state =
       then_behind (joined row (tt {0}) state) (joined row (tt {0}) (behind front state)) (λ _ next. all_joined rows value next)
@@ -111,10 +102,12 @@ module _ (front : List Row) where
     value_behind : (w w' : Walk Bool) → walk_behind front w ≡ w' → walk_behind front (as_value room w) ≡ as_value room w'
     value_behind w w' is = then_behind w w' (λ test state. gives (test_form room test) state) is (λ test state. refl)
 
-    compared_behind : (options : List (Sign × Bool)) (f g : Form) (state : State) → walk_behind front (compared room options f g state) ≡ compared room options f g (behind front state)
+    compared_behind : (options : List (Sign × Bool)) (f g : Form) (state : State)
+        → walk_behind front (compared room options f g state) ≡ compared room options f g (behind front state)
     compared_behind options f g state =
         then_behind (made (difference_of f g) state) (made (difference_of f g) (behind front state)) (λ d next. as_value room (split options d next))
-        (made_behind (difference_of f g) state) (λ d next. value_behind (split options d next) (split options d (behind front next)) (split_behind options d next))
+        (made_behind (difference_of f g) state)
+        (λ d next. value_behind (split options d next) (split options d (behind front next)) (split_behind options d next))
 
     unary_behind : (op : UnOp) (f : Form) (state : State) → walk_behind front (unary_made room op f state) ≡ unary_made room op f (behind front state)
     unary_behind Plus f state = refl
@@ -141,21 +134,24 @@ module _ (front : List Row) where
     ways_behind d f quotient rest state =
         append_behind (all_joined (rows_from_zero d f rest) (parts quotient rest) state) (all_joined (rows_below_zero d f rest) (parts quotient rest) state)
         ∙ ap (λ (t : Walk Parts). t ++ walk_behind front (all_joined (rows_below_zero d f rest) (parts quotient rest) state))
-          (all_joined_behind (rows_from_zero d f rest) (parts quotient rest) state)
+        (all_joined_behind (rows_from_zero d f rest) (parts quotient rest) state)
         ∙ ap (λ (t : Walk Parts). all_joined (rows_from_zero d f rest) (parts quotient rest) (behind front state) ++ t)
-          (all_joined_behind (rows_below_zero d f rest) (parts quotient rest) state)
+        (all_joined_behind (rows_below_zero d f rest) (parts quotient rest) state)
 
-    divided_behind : (test : Bool) (d : ℤ) (f : Form) (state : State) → walk_behind front (divided_by room test d f state) ≡ divided_by room test d f (behind front state)
+    divided_behind : (test : Bool) (d : ℤ) (f : Form) (state : State)
+        → walk_behind front (divided_by room test d f state) ≡ divided_by room test d f (behind front state)
     divided_behind false d f state = refl
     divided_behind true d f state =
-        then_behind (made (multiple_of d (unknown room state)) (with_column state)) (made (multiple_of d (unknown room state)) (with_column (behind front state)))
+        then_behind (made (multiple_of d (unknown room state)) (with_column state))
+        (made (multiple_of d (unknown room state)) (with_column (behind front state)))
         (λ whole next. onward (made (difference_of f whole) next) (λ rest last. two_ways d f (unknown room state) rest last))
         (made_behind (multiple_of d (unknown room state)) (with_column state))
         (λ whole next. then_behind (made (difference_of f whole) next) (made (difference_of f whole) (behind front next))
-          (λ rest last. two_ways d f (unknown room state) rest last) (made_behind (difference_of f whole) next)
-          (λ rest last. ways_behind d f (unknown room state) rest last))
+        (λ rest last. two_ways d f (unknown room state) rest last) (made_behind (difference_of f whole) next)
+        (λ rest last. ways_behind d f (unknown room state) rest last))
 
-    parted_behind : (none one : Bool) (d : ℤ) (f : Form) (state : State) → walk_behind front (parted_by room none one d f state) ≡ parted_by room none one d f (behind front state)
+    parted_behind : (none one : Bool) (d : ℤ) (f : Form) (state : State)
+        → walk_behind front (parted_by room none one d f state) ≡ parted_by room none one d f (behind front state)
     parted_behind true one d f state = refl
     parted_behind false true d f state = refl
     parted_behind false false d f state = divided_behind (ltb state.columns room) d f state
@@ -174,11 +170,13 @@ module _ (front : List Row) where
     done_behind : (stack : List Form) (w w' : Walk Form) → walk_behind front w ≡ w' → walk_behind front (done room forms stack w) ≡ done room forms stack w'
     done_behind stack w w' is = then_behind w w' (λ form state. gives (todo [] (form ∷ stack)) state) is (λ form state. refl)
 
-    by_test_behind : (f : Form) (state : State) (one other : Todo) → walk_behind front (by_test room forms f state one other) ≡ by_test room forms f (behind front state) one other
+    by_test_behind : (f : Form) (state : State) (one other : Todo)
+        → walk_behind front (by_test room forms f state one other) ≡ by_test room forms f (behind front state) one other
     by_test_behind f state one other =
         then_behind (tested f state) (tested f (behind front state)) (λ test next. gives (cond test one other) next) (tested_behind f state) (λ test next. refl)
 
-    step_behind : (task : Task) (stack : List Form) (state : State) → walk_behind front (step room forms task stack state) ≡ step room forms task stack (behind front state)
+    step_behind : (task : Task) (stack : List Form) (state : State)
+        → walk_behind front (step room forms task stack state) ≡ step room forms task stack (behind front state)
     step_behind (Value (Num z)) stack state = done_behind stack (made (constant_form room z) state) _ (made_behind (constant_form room z) state)
     step_behind (Value (Var x)) stack state = refl
     step_behind (Value (Un op e)) stack state = refl

@@ -40,8 +40,8 @@ module _ (v x r : ℤ) (d : ℕ) (some : 1 ≤ d) (left : r ≡ v +ℤ (negsuc 0
     small = below_size r d (omega (arith, ints, high)) (omega (arith, ints, low, some));
     not_negative = λ _. low;
     not_positive = λ at_most.
-      let none = none_at_zero (omega (arith, ints, sign, at_most)) (omega (arith, ints, high)) (omega (arith, ints, low, some)) in
-      omega (arith, ints, none);
+        let none = none_at_zero (omega (arith, ints, sign, at_most)) (omega (arith, ints, high)) (omega (arith, ints, low, some)) in
+        omega (arith, ints, none);
   })
 
   pub below_zero_is : v <ℤ pos 0 → r ≤ℤ pos 0 → pos 0 <ℤ (r +ℤ pos d) → (x ≡ int_div v (pos d)) × (r ≡ int_rem v (pos d))

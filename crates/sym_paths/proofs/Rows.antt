@@ -67,20 +67,26 @@ module _ {A : Type 0} (state : State) (value : A) (row : Row) where
   decided_joins false tight none is same = record {
     sound = tt;
     complete = λ point at holds.
-      let yes : holds_alone tight ≡ true = (alone_holds tight (point ++ []) none).1 ((same (point ++ [])).1 (holds [])) in cc;
+        let yes : holds_alone tight ≡ true = (alone_holds tight (point ++ []) none).1 ((same (point ++ [])).1 (holds [])) in cc;
   }
 
   joining_joins : (without : Bool) (tight : Row) → are_zeros tight.coefs ≡ without → ((point : List ℤ) → Holds point tight ↔ Holds point row)
       → Joins state (λ point. Holds point row) (λ point. HoldsBefore point row) value (joining without tight value state)
   joining_joins true tight none same = decided_joins (holds_alone tight) tight none refl same
   joining_joins false tight some same = record {
-    sound = (λ point at.
-      let parts = All-pop (Holds point) (state.rows ++ tight ∷ []) state.rows (Some tight) refl at.holds in
-      (record { room = at.room; holds = parts.0 }, (same point).0 parts.1, refl), tt);
-    complete = λ point at holds. inl (record {
-      exact = at.exact;
-      holds = All-push (HoldsBefore point) state.rows tight at.holds (λ behind. (same (point ++ behind)).1 (holds behind));
-    }, refl);
+    sound = (
+      λ point at.
+          let parts = All-pop (Holds point) (state.rows ++ tight ∷ []) state.rows (Some tight) refl at.holds in
+          (record { room = at.room; holds = parts.0 }, (same point).0 parts.1, refl),
+      tt,
+    );
+    complete = λ point at holds. inl (
+      record {
+        exact = at.exact;
+        holds = All-push (HoldsBefore point) state.rows tight at.holds (λ behind. (same (point ++ behind)).1 (holds behind));
+      },
+      refl,
+    );
   }
 
   tight_joins : (o : Option Row) → o ≡ tight_fitting row
@@ -91,6 +97,7 @@ module _ {A : Type 0} (state : State) (value : A) (row : Row) where
     where
       by : tight ≡ tight_of row → (point : List ℤ) → Holds point tight ↔ Holds point row
       by equal point = subst (λ (t : Row). Holds point t ↔ Holds point row) (sym equal) (tight_keeps row point)
+
       same_of : (fits : Bool) → Some tight ≡ cond fits (Some (tight_of row)) None → (point : List ℤ) → Holds point tight ↔ Holds point row
       same_of true is = let equal : tight ≡ tight_of row = cc in by equal
       same_of false is = let nothing : Some tight ≡ None = is in absurd (some_is_some nothing)
@@ -109,12 +116,12 @@ all_joined_joins value (row ∷ rows) state =
     let one = joined_joins state (tt {0}) row in
     record {
       sound = onward_each (λ _ next. all_joined rows value next) _ _ (joined row (tt {0}) state)
-        (λ path i. each_changed _ _ (all_joined rows value path.state)
+          (λ path i. each_changed _ _ (all_joined rows value path.state)
           (λ q j point at. let u = j point at in let v = i point u.0 in (v.0, All-cons (Holds point) row rows v.1 u.1, u.2))
           (all_joined_joins value rows path.state).sound) one.sound;
       complete = λ point at holds. onward_some (λ _ next. all_joined rows value next) _ _ (joined row (tt {0}) state)
-        (λ path i. (all_joined_joins value rows path.state).complete point i.0 (All-tail (HoldsBefore point) row rows holds))
-        (one.complete point at (All-head (HoldsBefore point) row rows holds));
+          (λ path i. (all_joined_joins value rows path.state).complete point i.0 (All-tail (HoldsBefore point) row rows holds))
+          (one.complete point at (All-head (HoldsBefore point) row rows holds));
     }
 
 -- ---- walks by signs
@@ -136,11 +143,14 @@ module _ {A : Type 0} (state : State) (P : List ℤ → Type 0) (G : List ℤ �
   split_sound (option ∷ options) each =
       each_append _ (joined (sign_row option.0 form) option.1 state) (split options form state)
       (each_changed _ _ (joined (sign_row option.0 form) option.1 state)
-        (λ path j point at. let u = j point at in (u.0, λ p.
-          let sign = (sign_row-holds option.0 form point).0 u.1 in
-          let sign' : HasSign option.0 value = subst (HasSign option.0) (has_here point form value (has point p)) sign in
-          subst (λ (b : A). G point b) (sym u.2) ((each point p).0 sign')))
-        (joined_joins state option.1 (sign_row option.0 form)).sound)
+      (λ path j point at. let u = j point at in (
+        u.0,
+        λ p.
+            let sign = (sign_row-holds option.0 form point).0 u.1 in
+            let sign' : HasSign option.0 value = subst (HasSign option.0) (has_here point form value (has point p)) sign in
+            subst (λ (b : A). G point b) (sym u.2) ((each point p).0 sign'),
+      ))
+      (joined_joins state option.1 (sign_row option.0 form)).sound)
       (split_sound options (λ point p. (each point p).1))
 
   split_complete : (options : List (Sign × A)) (point : List ℤ) → EachSign options value (G point) → SomeSign options value → IsWholePoint point state → P point
@@ -149,9 +159,9 @@ module _ {A : Type 0} (state : State) (P : List ℤ → Type 0) (G : List ℤ �
   split_complete (option ∷ options) point each (inl sign) at p =
       some_left _ (joined (sign_row option.0 form) option.1 state) (split options form state)
       (some_changed _ (ReachedFrom point G) (joined (sign_row option.0 form) option.1 state)
-        (λ path i. record { longer = point; extends = extends_itself point; whole = i.0; has = subst (λ (b : A). G point b) (sym i.1) (each.0 sign) })
-        ((joined_joins state option.1 (sign_row option.0 form)).complete point at (λ behind.
-          (sign_row-holds option.0 form (point ++ behind)).1 (subst (HasSign option.0) (sym (has point p behind)) sign))))
+      (λ path i. record { longer = point; extends = extends_itself point; whole = i.0; has = subst (λ (b : A). G point b) (sym i.1) (each.0 sign) })
+      ((joined_joins state option.1 (sign_row option.0 form)).complete point at (λ behind.
+      (sign_row-holds option.0 form (point ++ behind)).1 (subst (HasSign option.0) (sym (has point p behind)) sign))))
   split_complete (option ∷ options) point each (inr some) at p =
       some_right _ (joined (sign_row option.0 form) option.1 state) (split options form state) (split_complete options point each.1 some at p)
 

@@ -141,18 +141,18 @@ divided rows value = Arrives (record { state = record { rows = rows; columns = 3
 -- a / 4 is the unknown t, first with a >= 0, a - 4t >= 0, 4t + 3 - a >= 0; then with -a - 1 >= 0, 4t - a >= 0, a - 4t + 3 >= 0
 quotient : symbolic 3 forms (Bin Div a (Num (pos 4))) start
     ≡ divided (at_least (pos 1) (pos 0) (pos 0) (pos 0) ∷ at_least (pos 1) (pos 0) (negsuc 3) (pos 0) ∷ at_least (negsuc 0) (pos 0) (pos 4) (pos 3) ∷ [])
-      (form (pos 0) (pos 0) (pos 1) (pos 0))
+    (form (pos 0) (pos 0) (pos 1) (pos 0))
     ∷ divided (at_least (negsuc 0) (pos 0) (pos 0) (negsuc 0) ∷ at_least (negsuc 0) (pos 0) (pos 4) (pos 0) ∷ at_least (pos 1) (pos 0) (negsuc 3) (pos 3) ∷ [])
-      (form (pos 0) (pos 0) (pos 1) (pos 0)) ∷ []
+    (form (pos 0) (pos 0) (pos 1) (pos 0)) ∷ []
 unfolding gcd_steps
 quotient = refl
 
 -- what is left is a - 4t
 remainder : symbolic 3 forms (Bin Rem a (Num (pos 4))) start
     ≡ divided (at_least (pos 1) (pos 0) (pos 0) (pos 0) ∷ at_least (pos 1) (pos 0) (negsuc 3) (pos 0) ∷ at_least (negsuc 0) (pos 0) (pos 4) (pos 3) ∷ [])
-      (form (pos 1) (pos 0) (negsuc 3) (pos 0))
+    (form (pos 1) (pos 0) (negsuc 3) (pos 0))
     ∷ divided (at_least (negsuc 0) (pos 0) (pos 0) (negsuc 0) ∷ at_least (negsuc 0) (pos 0) (pos 4) (pos 0) ∷ at_least (pos 1) (pos 0) (negsuc 3) (pos 3) ∷ [])
-      (form (pos 1) (pos 0) (negsuc 3) (pos 0)) ∷ []
+    (form (pos 1) (pos 0) (negsuc 3) (pos 0)) ∷ []
 unfolding gcd_steps
 remainder = refl
 
@@ -186,13 +186,13 @@ condition_holds = refl
 -- a % 2 == 1: the unknown is the second column
 condition_divides : condition_cases 1 (Bin Equal (Bin Rem a (Num (pos 2))) (Num (pos 1)))
     ≡ Ok ((record { coefs = pos 1 ∷ pos 0 ∷ []; constant = pos 0; equality = false }
-      ∷ record { coefs = pos 1 ∷ negsuc 1 ∷ []; constant = pos 0; equality = false }
-      ∷ record { coefs = negsuc 0 ∷ pos 2 ∷ []; constant = pos 1; equality = false }
-      ∷ record { coefs = pos 1 ∷ negsuc 1 ∷ []; constant = negsuc 0; equality = true } ∷ [])
+    ∷ record { coefs = pos 1 ∷ negsuc 1 ∷ []; constant = pos 0; equality = false }
+    ∷ record { coefs = negsuc 0 ∷ pos 2 ∷ []; constant = pos 1; equality = false }
+    ∷ record { coefs = pos 1 ∷ negsuc 1 ∷ []; constant = negsuc 0; equality = true } ∷ [])
     ∷ (record { coefs = negsuc 0 ∷ pos 0 ∷ []; constant = negsuc 0; equality = false }
-      ∷ record { coefs = negsuc 0 ∷ pos 2 ∷ []; constant = pos 0; equality = false }
-      ∷ record { coefs = pos 1 ∷ negsuc 1 ∷ []; constant = pos 1; equality = false }
-      ∷ record { coefs = pos 1 ∷ negsuc 1 ∷ []; constant = negsuc 0; equality = true } ∷ []) ∷ [])
+    ∷ record { coefs = negsuc 0 ∷ pos 2 ∷ []; constant = pos 0; equality = false }
+    ∷ record { coefs = pos 1 ∷ negsuc 1 ∷ []; constant = pos 1; equality = false }
+    ∷ record { coefs = pos 1 ∷ negsuc 1 ∷ []; constant = negsuc 0; equality = true } ∷ []) ∷ [])
 unfolding gcd_steps
 condition_divides = refl
 

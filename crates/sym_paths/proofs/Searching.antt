@@ -24,7 +24,7 @@ module _ (room : ℕ) (graph : FlowGraph) where
       ap (λ (w : Walk (List Form)). onward w (reached room graph left goal forms)) (onward_gives (does room forms (Value e) [] state))
       ∙ onward_assoc (symbolic room forms e state) (λ f next. gives (f ∷ []) next) (reached room graph left goal forms)
       ∙ onward_same (symbolic room forms e state) (λ f next. onward (gives (f ∷ []) next) (reached room graph left goal forms))
-        (λ f next. reached room graph left goal forms (f ∷ []) next) (λ f next. onward_one (f ∷ []) next (reached room graph left goal forms))
+      (λ f next. reached room graph left goal forms (f ∷ []) next) (λ f next. onward_one (f ∷ []) next (reached room graph left goal forms))
 
   by_operation : (left : ℕ) (o : Option Operation) (forms : List Form) (state : State)
       → operation_walk room graph (walk_from room graph left) o forms state ≡ onward (entered_by room graph left o forms state) (resume room graph)
@@ -33,9 +33,11 @@ module _ (room : ℕ) (graph : FlowGraph) where
       sym (onward_one (evaluating room graph e (ToSet x next) forms left) state (resume room graph) ∙ evaluated e (ToSet x next) forms left state)
   by_operation left (Some (Branch e first second)) forms state =
       onward_assoc (symbolic room forms e state) tested (λ test. walk_from room graph left (cond test first second) forms)
-      ∙ sym (onward_one (evaluating room graph e (ToBranch first second) forms left) state (resume room graph) ∙ evaluated e (ToBranch first second) forms left state)
+      ∙ sym (onward_one (evaluating room graph e (ToBranch first second) forms left) state (resume room graph)
+      ∙ evaluated e (ToBranch first second) forms left state)
   by_operation left (Some (Mark mark next)) forms state =
-      sym (onward_one (Ends (end_at (place.Mark mark) (values_with (constant_form room (pos 0)) (variables_at graph (place.Mark mark)) forms))) state (resume room graph))
+      sym (onward_one (Ends (end_at (place.Mark mark)
+      (values_with (constant_form room (pos 0)) (variables_at graph (place.Mark mark)) forms))) state (resume room graph))
   by_operation left (Some (Return e)) forms state =
       sym (onward_one (evaluating room graph e ToReturn forms left) state (resume room graph) ∙ evaluated e ToReturn forms left state)
 
@@ -51,7 +53,8 @@ module _ (room : ℕ) (graph : FlowGraph) where
   goal_step left (ToSet x next) forms (f ∷ stack) state = from_node left next (set forms x f) state
   goal_step left (ToBranch first second) forms (f ∷ stack) state =
       onward_same (tested f state) (λ test. walk_from room graph left (cond test first second) forms)
-        (λ test next. onward (entered room graph left (cond test first second) forms next) (resume room graph)) (λ test next. from_node left (cond test first second) forms next)
+      (λ test next. onward (entered room graph left (cond test first second) forms next) (resume room graph))
+      (λ test next. from_node left (cond test first second) forms next)
       ∙ sym (onward_assoc (tested f state) (λ test. entered room graph left (cond test first second) forms) (resume room graph))
   goal_step left ToReturn forms (f ∷ stack) state = sym (onward_one (Ends (end_at place.Exit (f ∷ []))) state (resume room graph))
 
@@ -60,29 +63,31 @@ module _ (room : ℕ) (graph : FlowGraph) where
   all_append forms [] others stack state = sym (onward_one stack state (does_all room forms others))
   all_append forms (task ∷ tasks) others stack state =
       onward_same (does room forms task stack state) (does_all room forms (tasks ++ others))
-        (λ after next. onward (does_all room forms tasks after next) (does_all room forms others)) (λ after next. all_append forms tasks others after next)
+      (λ after next. onward (does_all room forms tasks after next) (does_all room forms others)) (λ after next. all_append forms tasks others after next)
       ∙ sym (onward_assoc (does room forms task stack state) (does_all room forms tasks) (does_all room forms others))
 
   task_step : (p : Pending) (tasks : List Task) (state : State)
-      → onward (does_all room p.forms tasks p.stack state) (reached room graph p.left p.goal p.forms) ≡ onward (advanced_by room graph p tasks state) (resume room graph)
+      → onward (does_all room p.forms tasks p.stack state) (reached room graph p.left p.goal p.forms)
+      ≡ onward (advanced_by room graph p tasks state) (resume room graph)
   task_step p [] state = onward_one p.stack state (reached room graph p.left p.goal p.forms) ∙ goal_step p.left p.goal p.forms p.stack state
   task_step p (task ∷ tasks) state =
       ap (λ (w : Walk (List Form)). onward (onward w (does_all room p.forms tasks)) go) (stepped room p.forms task p.stack state)
       ∙ onward_assoc (onward (step room p.forms task p.stack state) (does_todo room p.forms)) (does_all room p.forms tasks) go
       ∙ onward_assoc (step room p.forms task p.stack state) (does_todo room p.forms) (λ after next. onward (does_all room p.forms tasks after next) go)
       ∙ onward_same (step room p.forms task p.stack state)
-        (λ t next. onward (does_todo room p.forms t next) (λ after last. onward (does_all room p.forms tasks after last) go))
-        (λ t next. onward (gives (Goes (with_todo room graph p tasks t)) next) (resume room graph)) inner
+      (λ t next. onward (does_todo room p.forms t next) (λ after last. onward (does_all room p.forms tasks after last) go))
+      (λ t next. onward (gives (Goes (with_todo room graph p tasks t)) next) (resume room graph)) inner
       ∙ sym (onward_assoc (step room p.forms task p.stack state) (λ t next. gives (Goes (with_todo room graph p tasks t)) next) (resume room graph))
     where
       go : List Form → State → Walk End
       go = reached room graph p.left p.goal p.forms
+
       inner : (t : Todo) (next : State) → onward (does_todo room p.forms t next) (λ after last. onward (does_all room p.forms tasks after last) go)
           ≡ onward (gives (Goes (with_todo room graph p tasks t)) next) (resume room graph)
       inner t next =
           sym (onward_one (Goes (with_todo room graph p tasks t)) next (resume room graph)
-            ∙ ap (λ (w : Walk (List Form)). onward w go) (all_append p.forms t.tasks tasks t.stack next)
-            ∙ onward_assoc (does_todo room p.forms t next) (does_all room p.forms tasks) go)
+          ∙ ap (λ (w : Walk (List Form)). onward w go) (all_append p.forms t.tasks tasks t.stack next)
+          ∙ onward_assoc (does_todo room p.forms t next) (does_all room p.forms tasks) go)
 
   pub one_step : (p : Pending) (state : State) → resumed room graph p state ≡ onward (advanced room graph p state) (resume room graph)
   one_step p state = task_step p p.tasks state

@@ -21,8 +21,8 @@ module _ (room : ℕ) (forms : List Form) where
   none_left : (stack : List Form) (walk : Walk Form) → on_top room forms stack walk ≡ onward (done room forms stack walk) does_todo
   none_left stack walk =
       sym (onward_assoc walk (λ form state. gives (todo [] (form ∷ stack)) state) does_todo
-        ∙ onward_same walk (λ form state. onward (gives (todo [] (form ∷ stack)) state) does_todo) (λ form state. gives (form ∷ stack) state)
-          (λ form state. onward_one (todo [] (form ∷ stack)) state does_todo))
+      ∙ onward_same walk (λ form state. onward (gives (todo [] (form ∷ stack)) state) does_todo) (λ form state. gives (form ∷ stack) state)
+      (λ form state. onward_one (todo [] (form ∷ stack)) state does_todo))
 
   -- one task on its own
   alone : (task : Task) (stack : List Form) (state : State) → does_all room forms (task ∷ []) stack state ≡ does room forms task stack state
@@ -34,7 +34,7 @@ module _ (room : ℕ) (forms : List Form) where
   after_form e tasks stack state =
       onward_assoc (symbolic room forms e state) (λ f next. gives (f ∷ stack) next) (does_all room forms tasks)
       ∙ onward_same (symbolic room forms e state) (λ f next. onward (gives (f ∷ stack) next) (does_all room forms tasks))
-        (λ f next. does_all room forms tasks (f ∷ stack) next) (λ f next. onward_one (f ∷ stack) next (does_all room forms tasks))
+      (λ f next. does_all room forms tasks (f ∷ stack) next) (λ f next. onward_one (f ∷ stack) next (does_all room forms tasks))
 
   -- an expression whose form is made of one operand's
   one_operand : (e : Expression) (task : Task) (make : Form → State → Walk Form) (stack : List Form) (state : State)
@@ -43,7 +43,7 @@ module _ (room : ℕ) (forms : List Form) where
   one_operand e task make stack state same =
       onward_assoc (symbolic room forms e state) make (λ f next. gives (f ∷ stack) next)
       ∙ onward_same (symbolic room forms e state) (λ f next. on_top room forms stack (make f next))
-        (λ f next. does_all room forms (task ∷ []) (f ∷ stack) next) (λ f next. sym (same f next) ∙ sym (alone task (f ∷ stack) next))
+      (λ f next. does_all room forms (task ∷ []) (f ∷ stack) next) (λ f next. sym (same f next) ∙ sym (alone task (f ∷ stack) next))
       ∙ sym (after_form e (task ∷ []) stack state)
 
   -- one whose form is made of two operands'
@@ -51,10 +51,11 @@ module _ (room : ℕ) (forms : List Form) where
       → on_top room forms stack (both (symbolic room forms e) (symbolic room forms f) (binary_made room op) state)
       ≡ does_all room forms (Value e ∷ Value f ∷ Binary op ∷ []) stack state
   two_operands op e f stack state =
-      onward_assoc (symbolic room forms e state) (λ g next. onward (symbolic room forms f next) (λ h last. binary_made room op g h last)) (λ g next. gives (g ∷ stack) next)
+      onward_assoc (symbolic room forms e state) (λ g next. onward (symbolic room forms f next) (λ h last. binary_made room op g h last))
+      (λ g next. gives (g ∷ stack) next)
       ∙ onward_same (symbolic room forms e state)
-        (λ g next. on_top room forms stack (onward (symbolic room forms f next) (λ h last. binary_made room op g h last)))
-        (λ g next. does_all room forms (Value f ∷ Binary op ∷ []) (g ∷ stack) next) second
+      (λ g next. on_top room forms stack (onward (symbolic room forms f next) (λ h last. binary_made room op g h last)))
+      (λ g next. does_all room forms (Value f ∷ Binary op ∷ []) (g ∷ stack) next) second
       ∙ sym (after_form e (Value f ∷ Binary op ∷ []) stack state)
     where
       second : (g : Form) (next : State)
@@ -63,7 +64,7 @@ module _ (room : ℕ) (forms : List Form) where
       second g next =
           onward_assoc (symbolic room forms f next) (λ h last. binary_made room op g h last) (λ h last. gives (h ∷ stack) last)
           ∙ onward_same (symbolic room forms f next) (λ h last. on_top room forms stack (binary_made room op g h last))
-            (λ h last. does_all room forms (Binary op ∷ []) (h ∷ g ∷ stack) last) (λ h last. sym (alone (Binary op) (h ∷ g ∷ stack) last))
+          (λ h last. does_all room forms (Binary op ∷ []) (h ∷ g ∷ stack) last) (λ h last. sym (alone (Binary op) (h ∷ g ∷ stack) last))
           ∙ sym (after_form f (Binary op ∷ []) (g ∷ stack) next)
 
   -- a test decides which of two parts is walked
@@ -119,7 +120,7 @@ module _ (room : ℕ) (forms : List Form) where
   decided f state first second one other stack same same' =
       onward_assoc (tested f state) (chosen first second) (λ g next. gives (g ∷ stack) next)
       ∙ onward_same (tested f state) (λ test next. on_top room forms stack (chosen first second test next))
-        (λ test next. onward (gives (cond test one other) next) does_todo) pick
+      (λ test next. onward (gives (cond test one other) next) does_todo) pick
       ∙ sym (onward_assoc (tested f state) (λ test next. gives (cond test one other) next) does_todo)
     where
       pick : (test : Bool) (next : State) → on_top room forms stack (chosen first second test next) ≡ onward (gives (cond test one other) next) does_todo
@@ -151,11 +152,13 @@ module _ (room : ℕ) (forms : List Form) where
   stepped Test (f ∷ stack) state = none_left stack (as_value room (tested f state))
   stepped (AndThen e) [] state = refl
   stepped (AndThen e) (f ∷ stack) state =
-      decided f state (test_made room (symbolic room forms e)) (gives (test_form room false)) (todo (Value e ∷ Test ∷ []) stack) (todo [] (test_form room false ∷ stack)) stack
+      decided f state (test_made room (symbolic room forms e)) (gives (test_form room false)) (todo (Value e ∷ Test ∷ []) stack)
+      (todo [] (test_form room false ∷ stack)) stack
       (λ next. test_is e stack next) (λ next. constant_is false stack next)
   stepped (OrElse e) [] state = refl
   stepped (OrElse e) (f ∷ stack) state =
-      decided f state (gives (test_form room true)) (test_made room (symbolic room forms e)) (todo [] (test_form room true ∷ stack)) (todo (Value e ∷ Test ∷ []) stack) stack
+      decided f state (gives (test_form room true)) (test_made room (symbolic room forms e)) (todo [] (test_form room true ∷ stack))
+      (todo (Value e ∷ Test ∷ []) stack) stack
       (λ next. constant_is true stack next) (λ next. test_is e stack next)
   stepped (Choose e g) [] state = refl
   stepped (Choose e g) (f ∷ stack) state =

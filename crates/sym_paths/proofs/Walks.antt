@@ -66,10 +66,10 @@ module _ {A : Type 0} where
       → ((value : A) (point longer : List ℤ) → Extends point longer → Q point → G longer value → H longer value) → Splits state P G w → Splits state Q H w
   changed state P Q G H w f g h = record {
     sound = each_changed _ _ w (λ path k point is.
-      let r = k point is in (r.0, λ q. g path.value point point (extends_itself point) q (r.1 (f point q)))) h.sound;
+        let r = k point is in (r.0, λ q. g path.value point point (extends_itself point) q (r.1 (f point q)))) h.sound;
     complete = λ point is q. some_changed (ReachedFrom point G) (ReachedFrom point H) w
-      (λ path r. record { longer = r.longer; extends = r.extends; whole = r.whole; has = g path.value point r.longer r.extends q r.has })
-      (h.complete point is (f point q));
+        (λ path r. record { longer = r.longer; extends = r.extends; whole = r.whole; has = g path.value point r.longer r.extends q r.has })
+        (h.complete point is (f point q));
   }
 
   pub gives_splits : (state : State) (P : List ℤ → Type 0) (G : List ℤ → A → Type 0) (value : A) → ((point : List ℤ) → P point → G point value)
@@ -88,13 +88,13 @@ module _ {A B : Type 0} (H : List ℤ → B → Type 0) (next : A → State → 
       → ((value : A) (after : State) → Splits after (λ point. G point value) H (next value after)) → Splits state P H (onward w next)
   onward_splits state P G w h f = record {
     sound = onward_each next _ _ w
-      (λ path i. each_changed _ _ (next path.value path.state)
+        (λ path i. each_changed _ _ (next path.value path.state)
         (λ q j point is. let u = j point is in let v = i point u.0 in (v.0, λ z. u.1 (v.1 z))) (f path.value path.state).sound) h.sound;
     complete = λ point is q. onward_some next (ReachedFrom point G) (ReachedFrom point H) w
-      (λ path r. some_changed (ReachedFrom r.longer H) (ReachedFrom point H) (next path.value path.state)
+        (λ path r. some_changed (ReachedFrom r.longer H) (ReachedFrom point H) (next path.value path.state)
         (λ t u. record { longer = u.longer; extends = extends_on point r.longer u.longer r.extends u.extends; whole = u.whole; has = u.has })
         ((f path.value path.state).complete r.longer r.whole r.has))
-      (h.complete point is q);
+        (h.complete point is q);
   }
 
 -- ---- from a walk to its cases

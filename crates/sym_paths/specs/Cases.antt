@@ -23,7 +23,8 @@ variables_from room j (suc n) = variable_form room j ∷ variables_from room (su
 
 -- Each variable in scope at the start is a form of itself, and each other variable is 0.
 abbrev pub start_forms : ℕ → List ℕ → ℕ → List Form
-start_forms room variables vars = spread_with (constant_form room (pos 0)) variables vars (variables_from room 0 (length variables))
+start_forms room variables vars =
+    spread_with (constant_form room (pos 0)) variables vars (variables_from room 0 (length variables))
 
 -- No row, and the variables of the start alone.
 abbrev pub start_state : ℕ → State
@@ -34,7 +35,7 @@ abbrev pub segment_walk : FlowGraph → Place → Walk End
 segment_walk graph l =
     let width = length (variables_at graph l) in
     walk_from (room_for width) graph (suc (length graph.ops)) (node_after graph l)
-      (start_forms (room_for width) (variables_at graph l) graph.vars) (start_state width)
+    (start_forms (room_for width) (variables_at graph l) graph.vars) (start_state width)
 
 -- The first n numbers, and zeros where there are fewer.
 abbrev pub fitted : ℕ → List ℤ → List ℤ

@@ -41,7 +41,8 @@ goal_height heights ToReturn = 1
 abbrev pub operation_height : (ℕ → ℕ) → Option Operation → ℕ
 operation_height heights None = 0
 operation_height heights (Some (Set x e next)) = expression_height e + goal_height heights (ToSet x next)
-operation_height heights (Some (Branch e first second)) = expression_height e + goal_height heights (ToBranch first second)
+operation_height heights (Some (Branch e first second)) =
+    expression_height e + goal_height heights (ToBranch first second)
 operation_height heights (Some (Mark mark next)) = 0
 operation_height heights (Some (Return e)) = expression_height e + goal_height heights ToReturn
 

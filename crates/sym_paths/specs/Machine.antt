@@ -1,5 +1,5 @@
--- The walk in single steps, as the code takes them: what is left of an expression is a list of tasks over a stack of forms,
--- and the search is a list of cases under way, of which the first takes its next step.
+-- The walk in single steps: what is left of an expression is a list of tasks over a stack of forms, and the search is a
+-- list of cases under way, of which the first takes its next step.
 use Rattle.std.specs.Prelude.{ℕ, zero, suc, ℤ, pos, Bool, true, false, if◌then◌else◌, List, [], ◌∷◌, ◌++◌, slice_index_or, slice_set, Option, Some, None}
 use Rattle.c_ast.specs.declared.place.Place.TheVariants as place
 use Rattle.c_ast.specs.declared.expr.UnOp.{UnOp}
@@ -27,7 +27,7 @@ pub data Task : Type 0 where
   Rest : ℤ → Task
   -- The topmost form goes, and its test is put there as 1 or 0.
   Test : Task
-  -- The topmost form goes, and where it is a true first operand the test of the second is put there, and else 0.
+  -- The topmost form goes, and where it is a true first operand the test of the second is put there; else 0.
   AndThen : Expression → Task
   -- The same where it is a false one, and else 1.
   OrElse : Expression → Task
@@ -65,10 +65,14 @@ module _ (room : ℕ) (forms : List Form) where
   does (Rest divisor) (f ∷ stack) state = on_top stack (rest_made room divisor f state)
   does Test (f ∷ stack) state = on_top stack (as_value room (tested f state))
   does (AndThen e) (f ∷ stack) state =
-      on_top stack (onward (tested f state) (chosen (test_made room (symbolic room forms e)) (gives (test_form room false))))
+      on_top stack (onward (tested f state)
+      (chosen (test_made room (symbolic room forms e)) (gives (test_form room false))))
   does (OrElse e) (f ∷ stack) state =
-      on_top stack (onward (tested f state) (chosen (gives (test_form room true)) (test_made room (symbolic room forms e))))
-  does (Choose e g) (f ∷ stack) state = on_top stack (onward (tested f state) (chosen (symbolic room forms e) (symbolic room forms g)))
+      on_top stack (onward (tested f state)
+      (chosen (gives (test_form room true)) (test_made room (symbolic room forms e))))
+  does (Choose e g)
+      (f ∷ stack) state = on_top stack (onward (tested f state)
+      (chosen (symbolic room forms e) (symbolic room forms g)))
   does _ stack state = []
 
   -- What tasks do, one after another.
@@ -87,7 +91,8 @@ module _ (room : ℕ) (forms : List Form) where
   -- One step of a task.
   abbrev pub step : Task → List Form → State → Walk Todo
   step (Value (Num z)) stack state = done stack (made (constant_form room z) state)
-  step (Value (Var x)) stack state = gives (todo [] (slice_index_or forms x (constant_form room (pos 0)) ∷ stack)) state
+  step (Value (Var x)) stack state =
+      gives (todo [] (slice_index_or forms x (constant_form room (pos 0)) ∷ stack)) state
   step (Value (Un op e)) stack state = gives (todo (Value e ∷ Unary op ∷ []) stack) state
   step (Value (Bin op e f)) stack state = gives (todo (operator_tasks op e f) stack) state
   step (Value (Cond c e f)) stack state = gives (todo (Value c ∷ Choose e f ∷ []) stack) state
@@ -96,8 +101,10 @@ module _ (room : ℕ) (forms : List Form) where
   step (Quotient divisor) (f ∷ stack) state = done stack (quotient_made room divisor f state)
   step (Rest divisor) (f ∷ stack) state = done stack (rest_made room divisor f state)
   step Test (f ∷ stack) state = done stack (as_value room (tested f state))
-  step (AndThen e) (f ∷ stack) state = by_test f state (todo (Value e ∷ Test ∷ []) stack) (todo [] (test_form room false ∷ stack))
-  step (OrElse e) (f ∷ stack) state = by_test f state (todo [] (test_form room true ∷ stack)) (todo (Value e ∷ Test ∷ []) stack)
+  step (AndThen e) (f ∷ stack) state = by_test f state (todo (Value e ∷ Test ∷ []) stack)
+      (todo [] (test_form room false ∷ stack))
+  step (OrElse e) (f ∷ stack) state = by_test f state (todo [] (test_form room true ∷ stack))
+      (todo (Value e ∷ Test ∷ []) stack)
   step (Choose e g) (f ∷ stack) state = by_test f state (todo (Value e ∷ []) stack) (todo (Value g ∷ []) stack)
   step _ stack state = []
 
@@ -141,15 +148,18 @@ module _ (room : ℕ) (graph : FlowGraph) where
 
   -- A node's expression is begun.
   abbrev pub evaluating : Expression → Goal → List Form → ℕ → Move
-  evaluating e goal forms left = Goes (record { tasks = Value e ∷ []; stack = []; goal = goal; forms = forms; left = left })
+  evaluating e goal forms left =
+      Goes (record { tasks = Value e ∷ []; stack = []; goal = goal; forms = forms; left = left })
 
   -- A node is entered, with its operation.
   abbrev pub entered_by : ℕ → Option Operation → List Form → State → Walk Move
   entered_by left None forms state = []
   entered_by left (Some (Set x e next)) forms state = gives (evaluating e (ToSet x next) forms left) state
-  entered_by left (Some (Branch e first second)) forms state = gives (evaluating e (ToBranch first second) forms left) state
+  entered_by left (Some (Branch e first second)) forms state =
+      gives (evaluating e (ToBranch first second) forms left) state
   entered_by left (Some (Mark mark next)) forms state =
-      gives (Ends (end_at (place.Mark mark) (values_with (constant_form room (pos 0)) (variables_at graph (place.Mark mark)) forms))) state
+      gives (Ends (end_at (place.Mark mark)
+      (values_with (constant_form room (pos 0)) (variables_at graph (place.Mark mark)) forms))) state
   entered_by left (Some (Return e)) forms state = gives (evaluating e ToReturn forms left) state
 
   -- A node is entered, where one may still come.
@@ -167,12 +177,14 @@ module _ (room : ℕ) (graph : FlowGraph) where
 
   -- The case with other tasks and another stack.
   abbrev pub with_todo : Pending → List Task → Todo → Pending
-  with_todo p others t = record { tasks = t.tasks ++ others; stack = t.stack; goal = p.goal; forms = p.forms; left = p.left }
+  with_todo p others t =
+      record { tasks = t.tasks ++ others; stack = t.stack; goal = p.goal; forms = p.forms; left = p.left }
 
   -- One step of a case under way, with these tasks.
   abbrev pub advanced_by : Pending → List Task → State → Walk Move
   advanced_by p [] state = used p.left p.goal p.forms p.stack state
-  advanced_by p (task ∷ tasks) state = onward (step room p.forms task p.stack state) (λ t next. gives (Goes (with_todo p tasks t)) next)
+  advanced_by p (task ∷ tasks) state = onward (step room p.forms task p.stack state)
+      (λ t next. gives (Goes (with_todo p tasks t)) next)
 
   -- One step of a case under way.
   abbrev pub advanced : Pending → State → Walk Move

@@ -29,7 +29,7 @@ module _ (room : ℕ) (graph : FlowGraph) where
       onward (condition (symbolic room forms e) state) (λ test. others (if test then first else second) forms)
   operation_walk others (Some (Mark mark next)) forms state =
       gives (end_at (place.Mark mark)
-          (values_with (constant_form room (pos 0)) (variables_at graph (place.Mark mark)) forms)) state
+      (values_with (constant_form room (pos 0)) (variables_at graph (place.Mark mark)) forms)) state
   operation_walk others (Some (Return e)) forms state =
       onward (symbolic room forms e state) (λ value. gives (end_at place.Exit (value ∷ [])))
 

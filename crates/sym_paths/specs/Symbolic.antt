@@ -66,12 +66,14 @@ negated form state = negated_by (is_constant form) form state
 -- The rows under which `quotient` is that of a dividend of at least 0, and `rest` is what it leaves.
 abbrev pub rows_from_zero : ℤ → Form → Form → List Row
 rows_from_zero divisor dividend rest =
-    sign_row NotNegative dividend ∷ sign_row NotNegative rest ∷ sign_row Negative (record { coefs = rest.coefs; constant = rest.constant +ℤ neg_ℤ divisor }) ∷ []
+    sign_row NotNegative dividend ∷ sign_row NotNegative rest
+    ∷ sign_row Negative (record { coefs = rest.coefs; constant = rest.constant +ℤ neg_ℤ divisor }) ∷ []
 
 -- The same of a dividend below 0.
 abbrev pub rows_below_zero : ℤ → Form → Form → List Row
 rows_below_zero divisor dividend rest =
-    sign_row Negative dividend ∷ sign_row NotPositive rest ∷ sign_row Positive (record { coefs = rest.coefs; constant = rest.constant +ℤ divisor }) ∷ []
+    sign_row Negative dividend ∷ sign_row NotPositive rest
+    ∷ sign_row Positive (record { coefs = rest.coefs; constant = rest.constant +ℤ divisor }) ∷ []
 
 -- The quotient and what it leaves.
 pub record Parts : Type 0 where
@@ -141,14 +143,14 @@ module _ (room : ℕ) where
   divided_by false divisor dividend state = stops limit.ManyUnknowns
   divided_by true divisor dividend state =
       onward (made (multiple_of divisor (unknown state)) (with_column state)) (λ whole next.
-        onward (made (difference_of dividend whole) next)
-            (λ rest last. two_ways divisor dividend (unknown state) rest last))
+      onward (made (difference_of dividend whole) next)
+      (λ rest last. two_ways divisor dividend (unknown state) rest last))
 
   -- The quotient of a form, as it is constant or not and the divisor is 1 or not.
   abbrev pub parted_by : Bool → Bool → ℤ → Form → State → Walk Parts
   parted_by true one divisor form state =
       gives (parts (constant_form room (int_div form.constant divisor))
-          (constant_form room (int_rem form.constant divisor))) state
+      (constant_form room (int_rem form.constant divisor))) state
   parted_by false true divisor form state = gives (parts form (constant_form room (pos 0))) state
   parted_by false false divisor form state = divided_by (nat_lt state.columns room) divisor form state
 

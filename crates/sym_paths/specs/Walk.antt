@@ -1,5 +1,5 @@
 -- What a depth-first walk meets, in its order: what it arrives at, each with the rows on the way there, and limits.
-use Rattle.std.specs.Prelude.{ℕ, zero, suc, List, [], ◌∷◌, ◌++◌, Result, Ok, Err}
+use Rattle.std.specs.Prelude.{ℕ, zero, suc, List, [], ◌∷◌, ◌++◌, map, Result, Ok, Err}
 use Rattle.lin_terms.specs.declared.row.Row.{Row}
 use Rattle.sym_paths.specs.declared.limit.PathLimit.{PathLimit}
 use Rattle.sym_paths.specs.declared.limit.PathLimit.TheVariants as limit
@@ -49,3 +49,16 @@ abbrev pub onward : {A B : Type 0} → Walk A → (A → State → Walk B) → W
 onward [] next = []
 onward (Arrives path ∷ walk) next = next path.value path.state ++ onward walk next
 onward (Stops limit ∷ walk) next = Stops limit ∷ onward walk next
+
+-- The state with these rows in front.
+abbrev pub behind : List Row → State → State
+behind front state = record { rows = front ++ state.rows; columns = state.columns }
+
+-- What a walk meets, with these rows in front.
+abbrev pub arrival_behind : {A : Type 0} → List Row → Arrival A → Arrival A
+arrival_behind front (Arrives path) = Arrives (record { state = behind front path.state; value = path.value })
+arrival_behind front (Stops limit) = Stops limit
+
+-- The same of all that it meets.
+abbrev pub walk_behind : {A : Type 0} → List Row → Walk A → Walk A
+walk_behind front walk = map (arrival_behind front) walk

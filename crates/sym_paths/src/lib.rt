@@ -16,5 +16,5 @@ mod limit;
 mod law;
 
 pub use case::Case;
-pub use law::{law_of_cases, law_of_conditions, law_of_expressions};
+pub use law::{law_of_cases, law_of_conditions, law_of_expressions, law_of_steps};
 pub use limit::{MOST_CASES, MOST_UNKNOWNS, PathLimit};
