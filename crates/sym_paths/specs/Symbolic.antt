@@ -177,10 +177,11 @@ module _ (room : ℕ) where
   binary_made NotEqual f g state = compared nonzero_signs f g state
   binary_made _ f g state = []
 
-  -- The quotient of a form, and what it leaves.
+  -- The quotient of a form.
   abbrev pub quotient_made : ℤ → Form → State → Walk Form
   quotient_made divisor f state = onward (parted divisor f state) (λ both last. gives both.quotient last)
 
+  -- What the quotient of a form leaves.
   abbrev pub rest_made : ℤ → Form → State → Walk Form
   rest_made divisor f state = onward (parted divisor f state) (λ both last. gives both.rest last)
 
