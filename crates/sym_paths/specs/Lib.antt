@@ -1,0 +1,10 @@
+pub mod Walk
+pub mod Rows
+pub mod Symbolic
+pub mod Nodes
+pub mod Machine
+pub mod Heights
+pub mod Points
+pub mod Cases
+pub mod Condition
+pub mod Laws
