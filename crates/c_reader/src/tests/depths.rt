@@ -269,35 +269,22 @@ fn first_other_depth(alloc: Global, rows: &[DepthRow]) -> Result<Option<&'static
     Ok(None)
 }
 
-// Each table has a function of its own: it is dear to prove beside the exits of assertions.
-
-fn first_other_limit(alloc: Global) -> Result<Option<&'static str>, AllocError> {
-    first_other(alloc, LIMITS.as_slice())
-}
-
-fn first_wrong_depth(alloc: Global) -> Result<Option<&'static str>, AllocError> {
-    first_other_depth(alloc, DEPTHS.as_slice())
-}
-
-fn first_wrong_function(alloc: Global) -> Result<Option<&'static str>, AllocError> {
-    first_other_fault(alloc, true, BRACKETS.as_slice())
-}
-
-fn first_wrong_expression(alloc: Global) -> Result<Option<&'static str>, AllocError> {
-    first_other_fault(alloc, false, EXPRESSIONS.as_slice())
-}
-
 #[test]
 fn depth_is_limited(rt: HostRuntime) -> Result<(), Fail> {
-    assert_eq!(rt; first_other_limit(rt.alloc())?, None);
-    assert_eq!(rt; first_wrong_depth(rt.alloc())?, None);
+    let alloc = rt.alloc();
+    assert_eq!(rt; first_other(alloc, LIMITS.as_slice())?, None);
+    assert_eq!(rt; first_other_depth(alloc, DEPTHS.as_slice())?, None);
     Ok(())
 }
 
 #[test]
 fn open_brackets_are_limited(rt: HostRuntime) -> Result<(), Fail> {
-    assert_eq!(rt; first_wrong_function(rt.alloc())?, None);
-    assert_eq!(rt; first_wrong_expression(rt.alloc())?, None);
+    let alloc = rt.alloc();
+    assert_eq!(rt; first_other_fault(alloc, true, BRACKETS.as_slice())?, None);
+    assert_eq!(rt;
+        first_other_fault(alloc, false, EXPRESSIONS.as_slice())?,
+        None
+    );
     Ok(())
 }
 
