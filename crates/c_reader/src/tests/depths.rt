@@ -152,72 +152,94 @@ fn first_other(alloc: Global, rows: &[Nest]) -> Result<Option<&'static str>, All
     Ok(None)
 }
 
+/// A nest, and why it is refused, if it is. A tuple within a tuple would be dear to prove.
+type FaultRow = (
+    &'static str,
+    &'static str,
+    &'static str,
+    &'static str,
+    &'static str,
+    u16,
+    Option<ReadFault>,
+);
+
+/// A nest, and its depth.
+type DepthRow = (
+    &'static str,
+    &'static str,
+    &'static str,
+    &'static str,
+    &'static str,
+    u16,
+    u32,
+);
+
 /// The block of the function is open around the brackets. More than 200 are too many, whatever else
 /// is wrong.
-const BRACKETS: [(Nest, Option<ReadFault>); 7] = [
-    (("", "{", ";", "}", "", 199), None),
-    (("", "{", ";", "}", "", 200), Some(ReadFault::Deep)),
+const BRACKETS: [FaultRow; 7] = [
+    ("", "{", ";", "}", "", 199, None),
+    ("", "{", ";", "}", "", 200, Some(ReadFault::Deep)),
     // Brackets that stay open.
-    (("return ", "(", "", "", "", 199), Some(ReadFault::Grammar)),
-    (("return ", "(", "", "", "", 200), Some(ReadFault::Deep)),
+    ("return ", "(", "", "", "", 199, Some(ReadFault::Grammar)),
+    ("return ", "(", "", "", "", 200, Some(ReadFault::Deep)),
     // A closing before them makes room for one more.
-    (("}", "{", "", "", "", 200), Some(ReadFault::Grammar)),
-    (("}", "{", "", "", "", 201), Some(ReadFault::Deep)),
+    ("}", "{", "", "", "", 200, Some(ReadFault::Grammar)),
+    ("}", "{", "", "", "", 201, Some(ReadFault::Deep)),
     // A list is as deep as the deepest in it.
-    (("", ";", "", "", "", 5000), None),
+    ("", ";", "", "", "", 5000, None),
 ];
 
 /// An expression alone, with its brackets.
-const EXPRESSIONS: [(Nest, Option<ReadFault>); 7] = [
-    (("", "(", "a", ")", "", 200), None),
-    (("", "(", "a", ")", "", 201), Some(ReadFault::Deep)),
-    (("", "(", "", "", "", 200), Some(ReadFault::Grammar)),
-    (("", "(", "", "", "", 201), Some(ReadFault::Deep)),
-    (("", "- ", "a", "", "", 399), None),
-    (("", "- ", "a", "", "", 400), Some(ReadFault::Grammar)),
-    (("", "", "a", " / 2", "", 400), Some(ReadFault::Grammar)),
+const EXPRESSIONS: [FaultRow; 7] = [
+    ("", "(", "a", ")", "", 200, None),
+    ("", "(", "a", ")", "", 201, Some(ReadFault::Deep)),
+    ("", "(", "", "", "", 200, Some(ReadFault::Grammar)),
+    ("", "(", "", "", "", 201, Some(ReadFault::Deep)),
+    ("", "- ", "a", "", "", 399, None),
+    ("", "- ", "a", "", "", 400, Some(ReadFault::Grammar)),
+    ("", "", "a", " / 2", "", 400, Some(ReadFault::Grammar)),
 ];
 
 // The first row with another fault.
 fn first_other_fault(
     alloc: Global,
     is_function: bool,
-    rows: &[(Nest, Option<ReadFault>)],
+    rows: &[FaultRow],
 ) -> Result<Option<&'static str>, AllocError> {
-    for (nest, wanted) in rows {
-        let times = u32::from(nest.5);
+    for (first, front, middle, back, last, times, wanted) in rows {
+        let nest = (*first, *front, *middle, *back, *last, *times);
         let fault = if is_function {
-            function_fault(alloc, nest, times)?
+            function_fault(alloc, &nest, u32::from(*times))?
         } else {
-            expression_fault(alloc, nest, times)?
+            expression_fault(alloc, &nest, u32::from(*times))?
         };
         if fault != *wanted {
-            return Ok(Some(nest.1));
+            return Ok(Some(*front));
         }
     }
     Ok(None)
 }
 
 /// Expressions with their depths.
-const DEPTHS: [(Nest, u32); 16] = [
-    (("", "", "a", "", "", 0), 1),
-    (("", "", "a + b", "", "", 0), 2),
-    (("", "", "a + b * c", "", "", 0), 3),
-    (("", "", "a / b % c", "", "", 0), 3),
-    (("", "", "a ? b : -c", "", "", 0), 3),
+const DEPTHS: [DepthRow; 16] = [
+    ("", "", "a", "", "", 0, 1),
+    ("", "", "a + b", "", "", 0, 2),
+    ("", "", "a + b * c", "", "", 0, 3),
+    ("", "", "a / b % c", "", "", 0, 3),
+    ("", "", "a ? b : -c", "", "", 0, 3),
     // Brackets add nothing.
-    (("", "(", "a", ")", "", 200), 1),
-    (("", "(", "-a", ")", "", 200), 2),
+    ("", "(", "a", ")", "", 200, 1),
+    ("", "(", "-a", ")", "", 200, 2),
     // Signs, operations to the left and to the right, and choices.
-    (("", "- ", "a", "", "", 399), 400),
-    (("", "", "a", " + a", "", 399), 400),
-    (("", "a * ", "a", "", "", 399), 400),
-    (("", "", "a", " / a", "", 399), 400),
-    (("", "a - (", "a", ")", "", 199), 200),
-    (("", "- (- ", "a", ")", "", 200), 401),
-    (("", "a ? b : ", "a", "", "", 399), 400),
-    (("", "a ? ", "a", " : b", "", 399), 400),
-    (("", "(a ? a : a + ", "a", ")", "", 199), 399),
+    ("", "- ", "a", "", "", 399, 400),
+    ("", "", "a", " + a", "", 399, 400),
+    ("", "a * ", "a", "", "", 399, 400),
+    ("", "", "a", " / a", "", 399, 400),
+    ("", "a - (", "a", ")", "", 199, 200),
+    ("", "- (- ", "a", ")", "", 200, 401),
+    ("", "a ? b : ", "a", "", "", 399, 400),
+    ("", "a ? ", "a", " : b", "", 399, 400),
+    ("", "(a ? a : a + ", "a", ")", "", 199, 399),
 ];
 
 // The depth of the expression that is a whole text, if it is read in this room.
@@ -237,13 +259,11 @@ fn has_depth(alloc: Global, nest: &Nest, depth: u32) -> Result<bool, AllocError>
     Ok(read == Some(depth) && refused.is_none())
 }
 
-fn first_other_depth(
-    alloc: Global,
-    rows: &[(Nest, u32)],
-) -> Result<Option<&'static str>, AllocError> {
-    for (nest, depth) in rows {
-        if !has_depth(alloc, nest, *depth)? {
-            return Ok(Some(nest.2));
+fn first_other_depth(alloc: Global, rows: &[DepthRow]) -> Result<Option<&'static str>, AllocError> {
+    for (first, front, middle, back, last, times, depth) in rows {
+        let nest = (*first, *front, *middle, *back, *last, *times);
+        if !has_depth(alloc, &nest, *depth)? {
+            return Ok(Some(*middle));
         }
     }
     Ok(None)
