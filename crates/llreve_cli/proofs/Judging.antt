@@ -1,5 +1,5 @@
 -- From what the parts tell to what the words and the files lead to.
-use Rattle.std.proofs.Common.{◌≡◌, ℕ, ◌≤◌, List, Option, Some, None, refl, sym, subst, arith}
+use Rattle.std.proofs.Common.{◌≡◌, ℕ, ◌≤◌, List, Option, Some, None, Err, refl, sym, subst, arith}
 use Rattle.c_ast.specs.Function.{Function}
 use Rattle.c_ast.specs.declared.subject.Arity.{Arity}
 use Rattle.re_base.specs.Causes.{Rose}
@@ -8,23 +8,27 @@ use Rattle.command_line.specs.declared.words.Command.{Command}
 use Rattle.command_line.specs.CommandLine.{IsCommand}
 use Rattle.report.specs.declared.fault.Fault.{Fault}
 use Rattle.report.specs.declared.fault.Fault.TheVariants as fault
-use Rattle.llreve_cli.specs.declared.stop.Stop.{Stop}
-use Rattle.llreve_cli.specs.declared.stop.Stop.TheVariants as stop
-use Rattle.llreve_cli.specs.declared.outcome.Outcome.TheVariants as outcome
 use Rattle.c_source.specs.Reads.{Reads}
-use Rattle.llreve_cli.specs.Leads.{IsRead, AreRead, AreFunctions, RefusesRead, RefusesText, Leads, no_command, first_unread, second_unread, first_refused, second_refused, other_arity, condition_refused, RefusesGiven}
-use Rattle.llreve_cli.specs.Judged.{RefusesWords, RefusesSubject}
-use Rattle.llreve_cli.specs.Stops.{StopsBy, LeadsToFault}
+use Rattle.llreve_cli.specs.declared.judge.NoVerdict.{NoVerdict}
+use Rattle.llreve_cli.specs.declared.judge.NoVerdict.TheVariants as no_verdict
+use Rattle.llreve_cli.specs.NoVerdict.{IfRefused}
+use Rattle.llreve_cli.specs.Outcome.{Refused}
+use Rattle.llreve_cli.specs.Call.{Call}
+use Rattle.llreve_cli.specs.Leads.{IsRead, AreRead, AreFunctions, IsUnread, RefusesRead, RefusesText, RefusesGiven, Leads}
+use Rattle.llreve_cli.specs.Leads.{no_command, first_unread, second_unread, first_refused, second_refused, other_arity, condition_refused}
+use Rattle.llreve_cli.specs.Judged.{RefusesWords, RefusesSubject, Judges}
 
--- What each fault of one kind is of another kind too holds of the stop.
-pub StopsBy-weaker : (P Q : Fault → Type 0) (why : Stop) → ((f : Fault) → P f → Q f) → StopsBy P why → StopsBy Q why
-StopsBy-weaker P Q stop.Memory weaker stops = tt
-StopsBy-weaker P Q (stop.Refused f) weaker stops = weaker f stops
+-- What each fault of one kind is of another kind too holds where something is refused.
+pub IfRefused-weaker : (P Q : Fault → Type 0) (why : NoVerdict) → ((f : Fault) → P f → Q f) → IfRefused P why
+    → IfRefused Q why
+IfRefused-weaker P Q no_verdict.Memory weaker is = tt
+IfRefused-weaker P Q (no_verdict.Refused f) weaker is = weaker f is
 
 -- What is wrong with the condition's text keeps the subject from being made.
-pub given_stop : (f g : Function) (given_text : Option (List ℕ)) (why : Stop) → f.params ≡ g.params → StopsBy (RefusesGiven f given_text) why
-    → StopsBy (RefusesSubject f g given_text) why
-given_stop f g given_text why same stops = StopsBy-weaker (RefusesGiven f given_text) (RefusesSubject f g given_text) why weaker stops
+pub no_condition : (f g : Function) (given_text : Option (List ℕ)) (why : NoVerdict) → f.params ≡ g.params
+    → IfRefused (RefusesGiven f given_text) why → IfRefused (RefusesSubject f g given_text) why
+no_condition f g given_text why same is =
+    IfRefused-weaker (RefusesGiven f given_text) (RefusesSubject f g given_text) why weaker is
   where
     no_arity : (given_text : Option (List ℕ)) (arity : Arity) → ¬ RefusesGiven f given_text (fault.Arity arity)
     no_arity None arity refuses = refuses
@@ -40,34 +44,40 @@ given_stop f g given_text why same stops = StopsBy-weaker (RefusesGiven f given_
     weaker (fault.Arity arity) refuses = absurd (no_arity given_text arity refuses)
 
 -- A file that was read later in the call was not read in the call.
-reads_later : (text told : List ℕ → Option (List ℕ)) (before begun ended after : List ℕ → ℕ) (name : List ℕ) (f : Fault) → told name ≡ text name
-    → before name ≤ begun name → ended name ≤ after name → RefusesRead told begun ended name f → RefusesRead text before after name f
+reads_later : (text told : List ℕ → Option (List ℕ)) (before begun ended after : List ℕ → ℕ) (name : List ℕ)
+    (f : Fault) → told name ≡ text name → before name ≤ begun name → ended name ≤ after name
+    → RefusesRead told begun ended name f → RefusesRead text before after name f
 reads_later text told before begun ended after name fault.Usage same early late refuses = refuses
 reads_later text told before begun ended after name (fault.Read named) same early late refuses =
     let rose : Rose (before name) (after name) = omega (arith, refuses.1) in (refuses.0, rose)
-reads_later text told before begun ended after name (fault.TooLong named) same early late refuses = (refuses.0, subst IsLong same refuses.1)
+reads_later text told before begun ended after name (fault.TooLong named) same early late refuses =
+    (refuses.0, subst IsLong same refuses.1)
 reads_later text told before begun ended after name (fault.Token named inner) same early late refuses = refuses
 reads_later text told before begun ended after name (fault.Reader named inner) same early late refuses = refuses
 reads_later text told before begun ended after name (fault.Check named inner) same early late refuses = refuses
 reads_later text told before begun ended after name (fault.Arity arity) same early late refuses = refuses
 
--- Both files were read; `told` are the texts after the first read.
-abbrev pub read_files : (words : List (List ℕ)) (text told : List ℕ → Option (List ℕ)) (command : Command) (first second : List ℕ) → IsCommand words command
-    → IsRead (text command.first) first → told command.second ≡ text command.second → IsRead (told command.second) second → AreRead words text
-read_files words text told command first second commands first_read same second_read = record {
-  command = command;
-  commands = commands;
-  first_text = first;
-  second_text = second;
-  first_read = first_read;
-  second_read = subst (λ (o : Option (List ℕ)). IsRead o second) same second_read;
-}
+module _ (call : Call) where
+  -- Both files were read; `told` are the texts after the first read.
+  abbrev pub read_files : (told : List ℕ → Option (List ℕ)) (command : Command) (first second : List ℕ)
+      → IsCommand call.words command → IsRead (call.text command.first) first
+      → told command.second ≡ call.text command.second → IsRead (told command.second) second → AreRead call
+  read_files told command first second commands first_read same second_read = record {
+    command = command;
+    commands = commands;
+    first_text = first;
+    second_text = second;
+    first_read = first_read;
+    second_read = subst (λ (o : Option (List ℕ)). IsRead o second) same second_read;
+  }
 
-module _ (words : List (List ℕ)) (text : List ℕ → Option (List ℕ)) (before after : List ℕ → ℕ) where
-  abbrev LeadsTo : Fault → Type 0
-  LeadsTo f = LeadsToFault words text before after f
+  -- A fault that the call leads to is what it is judged by.
+  judged_by : (P : Fault → Type 0) (why : NoVerdict) → ((f : Fault) → P f → Leads call (Refused f)) → IfRefused P why
+      → Judges call (Err why)
+  judged_by P no_verdict.Memory leads is = tt
+  judged_by P (no_verdict.Refused f) leads is = leads f is
 
-  words_refused : (f : Fault) → RefusesWords words f → LeadsTo f
+  words_refused : (f : Fault) → RefusesWords call.words f → Leads call (Refused f)
   words_refused fault.Usage refuses = no_command refuses
   words_refused (fault.Read named) refuses = absurd refuses
   words_refused (fault.TooLong named) refuses = absurd refuses
@@ -77,35 +87,50 @@ module _ (words : List (List ℕ)) (text : List ℕ → Option (List ℕ)) (befo
   words_refused (fault.Arity arity) refuses = absurd refuses
 
   -- The words were refused.
-  pub words_stop : (why : Stop) → StopsBy (RefusesWords words) why → StopsBy LeadsTo why
-  words_stop why stops = StopsBy-weaker (RefusesWords words) LeadsTo why words_refused stops
+  pub no_words : (why : NoVerdict) → IfRefused (RefusesWords call.words) why → Judges call (Err why)
+  no_words why is = judged_by (RefusesWords call.words) why words_refused is
 
   -- The first file was not read; `mid` are the counts after that read.
-  pub first_stop : (mid : List ℕ → ℕ) (command : Command) (why : Stop) → IsCommand words command → mid command.first ≤ after command.first
-      → StopsBy (RefusesRead text before mid command.first) why → StopsBy LeadsTo why
-  first_stop mid command why commands later stops =
-      StopsBy-weaker (RefusesRead text before mid command.first) LeadsTo why
-      (λ f refuses. first_unread command f commands (reads_later text text before before mid after command.first f refl (omega arith) later refuses)) stops
+  pub no_first : (mid : List ℕ → ℕ) (command : Command) (why : NoVerdict) → IsCommand call.words command
+      → mid command.first ≤ call.faults_after command.first
+      → IfRefused (RefusesRead call.text call.faults_before mid command.first) why → Judges call (Err why)
+  no_first mid command why commands later is =
+      judged_by (RefusesRead call.text call.faults_before mid command.first) why
+      (λ f refuses. first_unread command f commands (unread f refuses)) is
+    where
+      unread : (f : Fault) → RefusesRead call.text call.faults_before mid command.first f
+          → IsUnread call command.first f
+      unread f refuses = reads_later call.text call.text call.faults_before call.faults_before mid call.faults_after
+          command.first f refl (omega arith) later refuses
 
   -- The second file was not read; `told` are the texts and `mid` the counts after the first read.
-  pub second_stop : (told : List ℕ → Option (List ℕ)) (mid : List ℕ → ℕ) (command : Command) (bytes : List ℕ) (why : Stop) → IsCommand words command
-      → IsRead (text command.first) bytes → told command.second ≡ text command.second → before command.second ≤ mid command.second
-      → StopsBy (RefusesRead told mid after command.second) why → StopsBy LeadsTo why
-  second_stop told mid command bytes why commands read same earlier stops =
-      StopsBy-weaker (RefusesRead told mid after command.second) LeadsTo why
-      (λ f refuses. second_unread command bytes f commands read (reads_later text told before mid after after command.second f same earlier (omega arith) refuses)) stops
+  pub no_second : (told : List ℕ → Option (List ℕ)) (mid : List ℕ → ℕ) (command : Command) (bytes : List ℕ)
+      (why : NoVerdict) → IsCommand call.words command → IsRead (call.text command.first) bytes
+      → told command.second ≡ call.text command.second → call.faults_before command.second ≤ mid command.second
+      → IfRefused (RefusesRead told mid call.faults_after command.second) why → Judges call (Err why)
+  no_second told mid command bytes why commands read same earlier is =
+      judged_by (RefusesRead told mid call.faults_after command.second) why
+      (λ f refuses. second_unread command bytes f commands read (unread f refuses)) is
+    where
+      unread : (f : Fault) → RefusesRead told mid call.faults_after command.second f → IsUnread call command.second f
+      unread f refuses = reads_later call.text told call.faults_before mid call.faults_after call.faults_after
+          command.second f same earlier (omega arith) refuses
 
-  pub first_text_stop : (files : AreRead words text) (why : Stop) → StopsBy (RefusesText files.command.first files.first_text) why → StopsBy LeadsTo why
-  first_text_stop files why stops =
-      StopsBy-weaker (RefusesText files.command.first files.first_text) LeadsTo why (λ f refuses. first_refused files f refuses) stops
+  -- The first text is no function.
+  pub no_first_text : (files : AreRead call) (why : NoVerdict)
+      → IfRefused (RefusesText files.command.first files.first_text) why → Judges call (Err why)
+  no_first_text files why is =
+      judged_by (RefusesText files.command.first files.first_text) why (λ f refuses. first_refused files f refuses) is
 
-  pub second_text_stop : (files : AreRead words text) (first : Function) (why : Stop) → Reads files.first_text first
-      → StopsBy (RefusesText files.command.second files.second_text) why → StopsBy LeadsTo why
-  second_text_stop files first why reads stops =
-      StopsBy-weaker (RefusesText files.command.second files.second_text) LeadsTo why (λ f refuses. second_refused files first f reads refuses) stops
+  -- The second text is no function.
+  pub no_second_text : (files : AreRead call) (first : Function) (why : NoVerdict) → Reads files.first_text first
+      → IfRefused (RefusesText files.command.second files.second_text) why → Judges call (Err why)
+  no_second_text files first why reads is =
+      judged_by (RefusesText files.command.second files.second_text) why
+      (λ f refuses. second_refused files first f reads refuses) is
 
-  given_refused : (functions : AreFunctions words text) (f : Fault)
-      → RefusesSubject functions.first functions.second functions.files.command.condition f → LeadsTo f
+  given_refused : (functions : AreFunctions call) (f : Fault)
+      → RefusesSubject functions.first functions.second functions.files.command.condition f → Leads call (Refused f)
   given_refused functions fault.Usage refuses = condition_refused functions fault.Usage refuses.0 refuses.1
   given_refused functions (fault.Read named) refuses = condition_refused functions (fault.Read named) refuses.0 refuses.1
   given_refused functions (fault.TooLong named) refuses = condition_refused functions (fault.TooLong named) refuses.0 refuses.1
@@ -113,9 +138,12 @@ module _ (words : List (List ℕ)) (text : List ℕ → Option (List ℕ)) (befo
   given_refused functions (fault.Reader named inner) refuses = condition_refused functions (fault.Reader named inner) refuses.0 refuses.1
   given_refused functions (fault.Check named inner) refuses = condition_refused functions (fault.Check named inner) refuses.0 refuses.1
   given_refused functions (fault.Arity arity) refuses =
-      subst (λ (told : Arity). Leads words text before after (outcome.Refused (fault.Arity told))) (sym refuses.0) (other_arity functions refuses.1)
+      subst (λ (told : Arity). Leads call (Refused (fault.Arity told))) (sym refuses.0) (other_arity functions refuses.1)
 
-  pub subject_stop : (functions : AreFunctions words text) (why : Stop)
-      → StopsBy (RefusesSubject functions.first functions.second functions.files.command.condition) why → StopsBy LeadsTo why
-  subject_stop functions why stops =
-      StopsBy-weaker (RefusesSubject functions.first functions.second functions.files.command.condition) LeadsTo why (given_refused functions) stops
+  -- The functions and the condition are no subject.
+  pub no_subject : (functions : AreFunctions call) (why : NoVerdict)
+      → IfRefused (RefusesSubject functions.first functions.second functions.files.command.condition) why
+      → Judges call (Err why)
+  no_subject functions why is =
+      judged_by (RefusesSubject functions.first functions.second functions.files.command.condition) why
+      (given_refused functions) is

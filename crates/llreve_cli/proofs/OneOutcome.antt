@@ -13,8 +13,9 @@ use Rattle.command_line.proofs.Laws.{one_command}
 use Rattle.report.specs.declared.early.Early.{Early}
 use Rattle.report.specs.declared.fault.Fault.{Fault}
 use Rattle.report.specs.declared.fault.Fault.TheVariants as fault
-use Rattle.llreve_cli.specs.declared.outcome.Outcome.{Outcome}
-use Rattle.llreve_cli.specs.declared.outcome.Outcome.TheVariants as outcome
+use Rattle.llreve_cli.specs.Outcome as outcome
+use Rattle.llreve_cli.specs.Outcome.{Outcome}
+use Rattle.llreve_cli.specs.Call.{Call}
 use Rattle.c_source.specs.declared.fault.TextFault.{TextFault}
 use Rattle.c_source.specs.declared.fault.TextFault.TheVariants as refusal
 use Rattle.c_source.specs.Reads.{Reads, IsRefusal}
@@ -23,7 +24,9 @@ use Rattle.c_source.proofs.Laws.{one_reading, one_refusal, read_is_not_refused, 
 use Rattle.llreve_cli.specs.Compare.{Compares}
 use Rattle.llreve_cli.specs.Samples.{TellsApart}
 use Rattle.llreve_cli.specs.Written.{fault_status, status_of}
-use Rattle.llreve_cli.specs.Leads.{IsRead, AreFunctions, IsGivenCondition, RefusesRead, RefusesBy, RefusesText, RefusesGiven, arities, Leads, no_command, first_unread, second_unread, first_refused, second_refused, other_arity, condition_refused, compared}
+use Rattle.llreve_cli.specs.Leads.{IsRead, AreFunctions, IsGivenCondition, IsUnread, RefusesBy}
+use Rattle.llreve_cli.specs.Leads.{RefusesText, RefusesGiven, arities, Leads, no_command, first_unread, second_unread}
+use Rattle.llreve_cli.specs.Leads.{first_refused, second_refused, other_arity, condition_refused, compared}
 use Rattle.llreve_cli.specs.Answers.{AreTold, SampleDiffers, HasOneOutcome}
 use Rattle.llreve_cli.proofs.OneVerdict.{verdict_once, apart_different}
 
@@ -287,33 +290,33 @@ apart_judged command a b f g made index pair o read equal is_made below apart (e
 
 -- ---- from the words on
 
-module _ (words : List (List ℕ)) (text : List ℕ → Option (List ℕ)) (before after : List ℕ → ℕ) (told : AreTold words text) where
+module _ (call : Call) (told : AreTold call) where
   -- the told texts of a command's files
-  abbrev a_of : (command : Command) → IsCommand words command → List ℕ
+  abbrev a_of : (command : Command) → IsCommand call.words command → List ℕ
   a_of command commands = (told.first command commands).0
 
-  abbrev b_of : (command : Command) → IsCommand words command → List ℕ
+  abbrev b_of : (command : Command) → IsCommand call.words command → List ℕ
   b_of command commands = (told.second command commands).0
 
   -- Bytes that were read are the told text, which is not too long.
-  read_told : (name bytes wanted : List ℕ) → text name ≡ Some wanted → IsRead (text name) bytes → (bytes ≡ wanted) × (length wanted ≤ longest)
+  read_told : (name bytes wanted : List ℕ) → call.text name ≡ Some wanted → IsRead (call.text name) bytes → (bytes ≡ wanted) × (length wanted ≤ longest)
   read_told name bytes wanted is read =
       let known : IsRead (Some wanted) bytes = subst (λ (o : Option (List ℕ)). IsRead o bytes) is read in
       let same : bytes ≡ wanted = known.whole in (same, subst (λ (list : List ℕ). length list ≤ longest) same known.short)
 
   -- The outcome is the one that these words lead to without a command, or with this one.
   data Settled : Outcome → Type 0 where
-    nothing : AreNoCommandLine words → Settled (outcome.Refused fault.Usage)
-    judged : (command : Command) (a b : List ℕ) (o : Outcome) → IsCommand words command → text command.first ≡ Some a → text command.second ≡ Some b
-        → Judged command a b o → Settled o
+    nothing : AreNoCommandLine call.words → Settled (outcome.Refused fault.Usage)
+    judged : (command : Command) (a b : List ℕ) (o : Outcome) → IsCommand call.words command → call.text command.first ≡ Some a
+        → call.text command.second ≡ Some b → Judged command a b o → Settled o
 
-  settled_by : (command : Command) (commands : IsCommand words command) (o : Outcome) → Judged command (a_of command commands) (b_of command commands) o
+  settled_by : (command : Command) (commands : IsCommand call.words command) (o : Outcome) → Judged command (a_of command commands) (b_of command commands) o
       → Settled o
   settled_by command commands o is = judged command (a_of command commands)
       (b_of command commands) o commands (told.first command commands).1 (told.second command commands).1 is
 
-  unread_first : (command : Command) (commands : IsCommand words command) (f : Fault) → fault_status f ≢ 4
-      → RefusesRead text before after command.first f → Judged command (a_of command commands) (b_of command commands) (outcome.Refused f)
+  unread_first : (command : Command) (commands : IsCommand call.words command) (f : Fault) → fault_status f ≢ 4
+      → IsUnread call command.first f → Judged command (a_of command commands) (b_of command commands) (outcome.Refused f)
   unread_first command commands (fault.Read named) read refuses = absurd (read refl)
   unread_first command commands (fault.TooLong named) read refuses =
       let over : longest < length (a_of command commands) = subst IsLong (told.first command commands).1 refuses.1 in
@@ -325,8 +328,8 @@ module _ (words : List (List ℕ)) (text : List ℕ → Option (List ℕ)) (befo
   unread_first command commands (fault.Check named inner) read refuses = absurd refuses
   unread_first command commands (fault.Arity arity) read refuses = absurd refuses
 
-  unread_second : (command : Command) (commands : IsCommand words command) (f : Fault) → fault_status f ≢ 4
-      → length (a_of command commands) ≤ longest → RefusesRead text before after command.second f
+  unread_second : (command : Command) (commands : IsCommand call.words command) (f : Fault) → fault_status f ≢ 4
+      → length (a_of command commands) ≤ longest → IsUnread call command.second f
       → Judged command (a_of command commands) (b_of command commands) (outcome.Refused f)
   unread_second command commands (fault.Read named) read short refuses = absurd (read refl)
   unread_second command commands (fault.TooLong named) read short refuses =
@@ -340,7 +343,7 @@ module _ (words : List (List ℕ)) (text : List ℕ → Option (List ℕ)) (befo
   unread_second command commands (fault.Arity arity) read short refuses = absurd refuses
 
   -- Both functions are those of the told texts.
-  read_both : (functions : AreFunctions words text)
+  read_both : (functions : AreFunctions call)
       → ReadBoth (a_of functions.files.command functions.files.commands)
       (b_of functions.files.command functions.files.commands) functions.first functions.second
   read_both functions =
@@ -355,7 +358,7 @@ module _ (words : List (List ℕ)) (text : List ℕ → Option (List ℕ)) (befo
       }
 
   -- The outcome is no failed read.
-  settled : (o : Outcome) → status_of o ≢ 4 → Leads words text before after o → Settled o
+  settled : (o : Outcome) → status_of o ≢ 4 → Leads call o → Settled o
   settled o is_read (no_command none) = nothing none
   settled o is_read (first_unread command f commands refuses) = settled_by command commands _ (unread_first command commands f is_read refuses)
   settled o is_read (second_unread command bytes f commands read refuses) =
@@ -363,7 +366,8 @@ module _ (words : List (List ℕ)) (text : List ℕ → Option (List ℕ)) (befo
   settled o is_read (first_refused files f refuses) =
       let first = read_told files.command.first files.first_text _ (told.first files.command files.commands).1 files.first_read in
       let second = read_told files.command.second files.second_text _ (told.second files.command files.commands).1 files.second_read in
-      settled_by files.command files.commands _ (first_bad f first.1 second.1 (subst (λ (list : List ℕ). RefusesText files.command.first list f) first.0 refuses))
+      settled_by files.command files.commands _
+      (first_bad f first.1 second.1 (subst (λ (list : List ℕ). RefusesText files.command.first list f) first.0 refuses))
   settled o is_read (second_refused files made f reads refuses) =
       let first = read_told files.command.first files.first_text _ (told.first files.command files.commands).1 files.first_read in
       let second = read_told files.command.second files.second_text _ (told.second files.command files.commands).1 files.second_read in
@@ -383,21 +387,21 @@ module _ (words : List (List ℕ)) (text : List ℕ → Option (List ℕ)) (befo
   settled_once one other (nothing without) (judged command _ _ _ commands _ _ _) = absurd (without command commands)
   settled_once one other (judged command _ _ _ commands _ _ _) (nothing without) = absurd (without command commands)
   settled_once one other (judged command a b _ commands first second is) (judged command' a' b' _ commands' first' second' also) =
-      let same = one_command words command command' commands commands' in
-      let firsts : a ≡ a' = let wrapped : Some a ≡ Some a' = sym first ∙ ap (λ (c : Command). text c.first) same ∙ first' in cc in
-      let seconds : b ≡ b' = let wrapped : Some b ≡ Some b' = sym second ∙ ap (λ (c : Command). text c.second) same ∙ second' in cc in
+      let same = one_command call.words command command' commands commands' in
+      let firsts : a ≡ a' = let wrapped : Some a ≡ Some a' = sym first ∙ ap (λ (c : Command). call.text c.first) same ∙ first' in cc in
+      let seconds : b ≡ b' = let wrapped : Some b ≡ Some b' = sym second ∙ ap (λ (c : Command). call.text c.second) same ∙ second' in cc in
       judged_once command' a' b' one other
       (subst (λ (list : List ℕ). Judged command' a' list one) seconds (subst (λ (list : List ℕ). Judged command' list b one) firsts
       (subst (λ (c : Command). Judged c a b one) same is))) also
 
-  apart_settled : (different : SampleDiffers words text) (o : Outcome) → Settled o → status_of o ≡ 1
+  apart_settled : (different : SampleDiffers call) (o : Outcome) → Settled o → status_of o ≡ 1
   apart_settled different o (nothing without) = absurd (without different.comparable.functions.files.command different.comparable.functions.files.commands)
   apart_settled different o (judged command a b _ commands is_first is_second is) =
       let functions = different.comparable.functions in
       let files = functions.files in
-      let same : files.command ≡ command = one_command words files.command command files.commands commands in
-      let first = read_told files.command.first files.first_text a (ap (λ (c : Command). text c.first) same ∙ is_first) files.first_read in
-      let second = read_told files.command.second files.second_text b (ap (λ (c : Command). text c.second) same ∙ is_second) files.second_read in
+      let same : files.command ≡ command = one_command call.words files.command command files.commands commands in
+      let first = read_told files.command.first files.first_text a (ap (λ (c : Command). call.text c.first) same ∙ is_first) files.first_read in
+      let second = read_told files.command.second files.second_text b (ap (λ (c : Command). call.text c.second) same ∙ is_second) files.second_read in
       let both : ReadBoth a b functions.first functions.second = record {
         short_first = first.1;
         short_second = second.1;
@@ -411,14 +415,12 @@ module _ (words : List (List ℕ)) (text : List ℕ → Option (List ℕ)) (befo
       (subst (λ (c : Command). TellsApart (comparison functions.first functions.second c.settings different.comparable.condition)
       different.index different.pair) same different.apart) is
 
--- Words and told texts lead to one outcome at most, apart from a failed read.
+-- A call whose texts are told leads to one outcome at most, apart from a failed read.
 pub outcome_once : HasOneOutcome
-outcome_once words text before after one other told is also is_read is_read' =
-    settled_once words text before after told one other (settled words text before after told one is_read is)
-    (settled words text before after told other is_read' also)
+outcome_once call one other told is also is_read is_read' =
+    settled_once call told one other (settled call told one is_read is) (settled call told other is_read' also)
 
--- Where a sample tells the functions apart, that is what the words and the told texts lead to, unless a read failed.
-pub apart_once : (words : List (List ℕ)) (text : List ℕ → Option (List ℕ)) (before after : List ℕ → ℕ) (o : Outcome)
-    → AreTold words text → SampleDiffers words text → Leads words text before after o → status_of o ≢ 4 → status_of o ≡ 1
-apart_once words text before after o told different is is_read =
-    apart_settled words text before after told different o (settled words text before after told o is_read is)
+-- Where a sample tells the functions apart, that is what the call leads to, unless a read failed.
+pub apart_once : (call : Call) (o : Outcome) → AreTold call → SampleDiffers call → Leads call o → status_of o ≢ 4
+    → status_of o ≡ 1
+apart_once call o told different is is_read = apart_settled call told different o (settled call told o is_read is)

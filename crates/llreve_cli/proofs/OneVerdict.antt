@@ -41,7 +41,9 @@ module _ (subject : Comparison) where
       → IsDifference subject j input' first' second'
       → early.Different i input first second ≡ early.Different j input' first' second'
   difference_once i j input input' first second first' second' one other =
-      let same : i ≡ j = omega (arith, not_less i j input input' first second first' second' one other, not_less j i input' input first' second' first second other one) in
+      let not_before = not_less i j input input' first second first' second' one other in
+      let not_behind = not_less j i input' input first' second' first second other one in
+      let same : i ≡ j = omega (arith, not_before, not_behind) in
       let pairs : one.pair
       ≡ other.pair = one_pair subject j one.pair other.pair (subst (λ (k : ℕ). TellsApart subject k one.pair) same one.apart).is other.apart.is in
       let inputs : input ≡ input' = one.of_input ∙ ap (λ (p : Pair). p.input) pairs ∙ sym other.of_input in

@@ -16,7 +16,8 @@ use Rattle.llreve_cli.specs.Samples.{IsDifference, AreAllAlike}
 
 -- Both expressions have a form over `count` variables, and it is one form.
 abbrev pub HaveOneForm : ℕ → Expression → Expression → Type 0
-HaveOneForm count first second = (form : Form) × (form_of count first ≡ Some form) × (form_of count second ≡ Some form)
+HaveOneForm count first second =
+    (form : Form) × (form_of count first ≡ Some form) × (form_of count second ≡ Some form)
 
 -- Both functions return an expression, and the two have one form over the parameters.
 pub record HaveEqualForms (f g : Function) : Type 0 where
@@ -31,8 +32,8 @@ pub record AreSame (same : Bool) (count : ℕ) (first second : Expression) : Typ
   pub one_form : IsTrue same ↔ HaveOneForm count first second
   pub one_value : IsTrue same → (values : List ℤ) → eval first values ≡ eval second values
 
--- Both functions are one `return`, of expressions with one form, so no input makes them return differently, whatever the
--- condition on the inputs.
+-- Both functions are one `return`, of expressions with one form, so no input makes them return differently, whatever
+-- the condition on the inputs.
 pub record HaveOneValue (f g : Function) (condition : Expression) : Type 0 where
   pub forms : HaveEqualForms f g
   pub never_differ : NeverDiffer (program_of f) (program_of g) condition

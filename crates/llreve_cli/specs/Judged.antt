@@ -1,5 +1,5 @@
--- What the parts of the judgement tell.
-use Rattle.std.specs.Prelude.{◌≡◌, ◌≢◌, ℕ, List, Option}
+-- What the judgement and its parts answer.
+use Rattle.std.specs.Prelude.{◌≡◌, ◌≢◌, ℕ, List, Option, Result, Ok, Err}
 use Rattle.c_ast.specs.declared.expr.Expr.{Expr}
 use Rattle.c_ast.specs.Function.{Function}
 use Rattle.c_ast.specs.Comparison.{Comparison, comparison}
@@ -8,7 +8,10 @@ use Rattle.command_line.specs.Refused.{AreNoCommandLine}
 use Rattle.report.specs.declared.early.Early.{Early}
 use Rattle.report.specs.declared.fault.Fault.{Fault}
 use Rattle.report.specs.declared.fault.Fault.TheVariants as fault
-use Rattle.llreve_cli.specs.declared.outcome.Outcome.TheVariants.{Verdict}
+use Rattle.llreve_cli.specs.declared.judge.NoVerdict.{NoVerdict}
+use Rattle.llreve_cli.specs.declared.judge.NoVerdict.TheVariants as no_verdict
+use Rattle.llreve_cli.specs.Outcome.{Verdict, Refused}
+use Rattle.llreve_cli.specs.Call.{Call}
 use Rattle.llreve_cli.specs.Leads.{Leads, arities, IsGivenCondition, RefusesGiven}
 
 -- The fault says that the words are no command line.
@@ -16,7 +19,8 @@ abbrev pub RefusesWords : List (List ℕ) → Fault → Type 0
 RefusesWords words fault.Usage = AreNoCommandLine words
 RefusesWords words _ = ⊥
 
--- The subject of both functions under a command: they have as many parameters, and the condition is the one that is given.
+-- The subject of both functions under a command: they have as many parameters, and the condition is the one that is
+-- given.
 pub record IsSubject (f g : Function) (command : Command) (subject : Comparison) : Type 0 where
   pub arity : f.params ≡ g.params
   pub condition : Option Expr
@@ -28,6 +32,8 @@ abbrev pub RefusesSubject : Function → Function → Option (List ℕ) → Faul
 RefusesSubject f g text (fault.Arity arity) = (arity ≡ arities f g) × (f.params ≢ g.params)
 RefusesSubject f g text why = (f.params ≡ g.params) × RefusesGiven f text why
 
--- The verdict is what the words and the files lead to.
-abbrev pub LeadsToVerdict : List (List ℕ) → (List ℕ → Option (List ℕ)) → (List ℕ → ℕ) → (List ℕ → ℕ) → Early → Type 0
-LeadsToVerdict words text before after early = Leads words text before after (Verdict early)
+-- The answer is the outcome that the call leads to, unless memory ran out.
+abbrev pub Judges : Call → Result Early NoVerdict → Type 0
+Judges call (Ok early) = Leads call (Verdict early)
+Judges call (Err (no_verdict.Refused fault)) = Leads call (Refused fault)
+Judges call (Err no_verdict.Memory) = Unit {0}

@@ -1,5 +1,4 @@
--- What the words and the files lead to. `text` tells the texts of the names, and `before` and `after` are the counts of
--- faults of the names, before and after the call.
+-- What the words and the files of a call lead to.
 use Rattle.std.specs.Prelude.{◌≡◌, ◌≢◌, ℕ, ◌≤◌, List, length, codes, Option, Some, None}
 use Rattle.re_base.specs.Causes.{Rose}
 use Rattle.re_base.specs.Told.{IsWhole, IsLong, longest}
@@ -13,12 +12,12 @@ use Rattle.command_line.specs.Refused.{AreNoCommandLine}
 use Rattle.report.specs.declared.early.Early.{Early}
 use Rattle.report.specs.declared.fault.Fault.{Fault}
 use Rattle.report.specs.declared.fault.Fault.TheVariants as fault
-use Rattle.llreve_cli.specs.declared.outcome.Outcome.{Outcome}
-use Rattle.llreve_cli.specs.declared.outcome.Outcome.TheVariants.{Verdict, Refused}
 use Rattle.c_source.specs.declared.fault.TextFault.{TextFault}
 use Rattle.c_source.specs.declared.fault.TextFault.TheVariants as refusal
 use Rattle.c_source.specs.Reads.{Reads, IsRefusal}
 use Rattle.c_source.specs.ReadsCondition.{ReadsCondition, IsConditionRefusal}
+use Rattle.llreve_cli.specs.Outcome.{Outcome, Verdict, Refused}
+use Rattle.llreve_cli.specs.Call.{Call}
 use Rattle.llreve_cli.specs.Compare.{Compares}
 
 -- These bytes were read: they are the told text, where one is told, and not too long.
@@ -27,17 +26,17 @@ pub record IsRead (told : Option (List ℕ)) (bytes : List ℕ) : Type 0 where
   pub short : length bytes ≤ longest
 
 -- The words are a command line, and both files that it names were read.
-pub record AreRead (words : List (List ℕ)) (text : List ℕ → Option (List ℕ)) : Type 0 where
+pub record AreRead (call : Call) : Type 0 where
   pub command : Command
-  pub commands : IsCommand words command
+  pub commands : IsCommand call.words command
   pub first_text : List ℕ
   pub second_text : List ℕ
-  pub first_read : IsRead (text command.first) first_text
-  pub second_read : IsRead (text command.second) second_text
+  pub first_read : IsRead (call.text command.first) first_text
+  pub second_read : IsRead (call.text command.second) second_text
 
 -- Both texts are functions.
-pub record AreFunctions (words : List (List ℕ)) (text : List ℕ → Option (List ℕ)) : Type 0 where
-  pub files : AreRead words text
+pub record AreFunctions (call : Call) : Type 0 where
+  pub files : AreRead call
   pub first : Function
   pub second : Function
   pub first_parsed : Reads files.first_text first
@@ -50,29 +49,34 @@ IsGivenCondition func (Some text) (Some condition) = ReadsCondition func text co
 IsGivenCondition func None (Some condition) = ⊥
 IsGivenCondition func (Some text) None = ⊥
 
--- Both texts are functions of as many parameters, and the text of the option `--pre`, where it stands, is a condition on
--- these.
-pub record AreComparable (words : List (List ℕ)) (text : List ℕ → Option (List ℕ)) : Type 0 where
-  pub functions : AreFunctions words text
+-- Both texts are functions of as many parameters, and the text of the option `--pre`, where it stands, is a condition
+-- on these.
+pub record AreComparable (call : Call) : Type 0 where
+  pub functions : AreFunctions call
   pub arity : functions.first.params ≡ functions.second.params
   pub condition : Option Expr
   pub given : IsGivenCondition functions.first functions.files.command.condition condition
 
 -- The functions, with the settings of the words and the condition that they spell.
-abbrev pub subject_of : {words : List (List ℕ)} {text : List ℕ → Option (List ℕ)} → AreComparable words text
-    → Comparison
+abbrev pub subject_of : {call : Call} → AreComparable call → Comparison
 subject_of comparable =
-    comparison comparable.functions.first comparable.functions.second comparable.functions.files.command.settings comparable.condition
+    comparison comparable.functions.first comparable.functions.second comparable.functions.files.command.settings
+    comparable.condition
 
 -- The numbers of parameters of two functions.
 abbrev pub arities : Function → Function → Arity
 arities f g = record { first = f.params; second = g.params }
 
--- The fault says why the file with this name was not read.
-abbrev pub RefusesRead : (List ℕ → Option (List ℕ)) → (List ℕ → ℕ) → (List ℕ → ℕ) → List ℕ → Fault → Type 0
+-- The fault says why the file with this name was not read: `text` tells the texts of the names, and `before` and
+-- `after` count how often reads of each name had failed.
+abbrev pub RefusesRead : (List ℕ → Option (List ℕ)) → (before after : List ℕ → ℕ) → List ℕ → Fault → Type 0
 RefusesRead text before after name (fault.Read named) = (named ≡ name) × Rose (before name) (after name)
 RefusesRead text before after name (fault.TooLong named) = (named ≡ name) × IsLong (text name)
 RefusesRead text before after name _ = ⊥
+
+-- The same of a file that the call was to read.
+abbrev pub IsUnread : Call → List ℕ → Fault → Type 0
+IsUnread call name why = RefusesRead call.text call.faults_before call.faults_after name why
 
 -- The fault says, under this name, why a text is refused.
 abbrev pub RefusesBy : List ℕ → (TextFault → Type 0) → Fault → Type 0
@@ -95,23 +99,20 @@ RefusesGiven func None why = ⊥
 RefusesGiven func (Some text) why = RefusesCondition func text why
 
 -- One case an outcome, in the order in which they are judged: each case says that none before it holds.
-pub data Leads (words : List (List ℕ)) (text : List ℕ → Option (List ℕ)) (before after : List ℕ → ℕ) : Outcome
-    → Type 0 where
-  no_command : AreNoCommandLine words → Leads words text before after (Refused fault.Usage)
-  first_unread : (command : Command) (why : Fault) → IsCommand words command
-      → RefusesRead text before after command.first why
-      → Leads words text before after (Refused why)
-  second_unread : (command : Command) (bytes : List ℕ) (why : Fault) → IsCommand words command
-      → IsRead (text command.first) bytes
-      → RefusesRead text before after command.second why → Leads words text before after (Refused why)
-  first_refused : (files : AreRead words text) (why : Fault) → RefusesText files.command.first files.first_text why
-      → Leads words text before after (Refused why)
-  second_refused : (files : AreRead words text) (first : Function) (why : Fault) → Reads files.first_text first
-      → RefusesText files.command.second files.second_text why → Leads words text before after (Refused why)
-  other_arity : (functions : AreFunctions words text) → functions.first.params ≢ functions.second.params
-      → Leads words text before after (Refused (fault.Arity (arities functions.first functions.second)))
-  condition_refused : (functions : AreFunctions words text) (why : Fault) → functions.first.params
-      ≡ functions.second.params
-      → RefusesGiven functions.first functions.files.command.condition why → Leads words text before after (Refused why)
-  compared : (comparable : AreComparable words text) (early : Early) → Compares (subject_of comparable) early
-      → Leads words text before after (Verdict early)
+pub data Leads (call : Call) : Outcome → Type 0 where
+  no_command : AreNoCommandLine call.words → Leads call (Refused fault.Usage)
+  first_unread : (command : Command) (why : Fault) → IsCommand call.words command → IsUnread call command.first why
+      → Leads call (Refused why)
+  second_unread : (command : Command) (bytes : List ℕ) (why : Fault) → IsCommand call.words command
+      → IsRead (call.text command.first) bytes → IsUnread call command.second why → Leads call (Refused why)
+  first_refused : (files : AreRead call) (why : Fault) → RefusesText files.command.first files.first_text why
+      → Leads call (Refused why)
+  second_refused : (files : AreRead call) (first : Function) (why : Fault) → Reads files.first_text first
+      → RefusesText files.command.second files.second_text why → Leads call (Refused why)
+  other_arity : (functions : AreFunctions call) → functions.first.params ≢ functions.second.params
+      → Leads call (Refused (fault.Arity (arities functions.first functions.second)))
+  condition_refused : (functions : AreFunctions call) (why : Fault)
+      → functions.first.params ≡ functions.second.params
+      → RefusesGiven functions.first functions.files.command.condition why → Leads call (Refused why)
+  compared : (comparable : AreComparable call) (early : Early) → Compares (subject_of comparable) early
+      → Leads call (Verdict early)

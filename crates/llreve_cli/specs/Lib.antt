@@ -2,9 +2,12 @@ pub mod Form
 pub mod NoForm
 pub mod Samples
 pub mod Compare
+pub mod Outcome
+pub mod Call
+pub mod Change
 pub mod Leads
+pub mod NoVerdict
 pub mod Judged
-pub mod Stops
 pub mod Written
 pub mod Tells
 pub mod Answers

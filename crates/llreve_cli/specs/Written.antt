@@ -4,10 +4,9 @@ use Rattle.report.specs.declared.early.Early.{Early}
 use Rattle.report.specs.declared.early.Early.TheVariants.{Equivalent, Different, Unknown}
 use Rattle.report.specs.declared.fault.Fault.{Fault}
 use Rattle.report.specs.declared.fault.Fault.TheVariants.{Read}
-use Rattle.report.specs.Early.{IsKeptEarly, early_text}
-use Rattle.report.specs.Faults.{IsKept, fault_text}
-use Rattle.llreve_cli.specs.declared.outcome.Outcome.{Outcome}
-use Rattle.llreve_cli.specs.declared.outcome.Outcome.TheVariants.{Verdict, Refused}
+use Rattle.report.specs.Early.{early_text}
+use Rattle.report.specs.Faults.{fault_text}
+use Rattle.llreve_cli.specs.Outcome.{Outcome, Verdict, Refused}
 
 -- The status of a verdict.
 abbrev pub early_status : Early → ℕ
@@ -34,8 +33,3 @@ out_text (Refused fault) = []
 abbrev pub err_text : Outcome → List ℕ
 err_text (Verdict early) = []
 err_text (Refused fault) = fault_text fault
-
--- Nothing that the outcome holds is want of memory.
-abbrev pub IsKeptOutcome : Outcome → Type 0
-IsKeptOutcome (Verdict early) = IsKeptEarly early
-IsKeptOutcome (Refused fault) = IsKept fault

@@ -22,7 +22,8 @@ fn have_equal_forms(
 ) -> Result<bool, AllocError>
     requires first { CanEvaluate count (expression_of first.now) }
     requires second { CanEvaluate count (expression_of second.now) }
-    ensures { IfOk result (λ same. AreSame same count (expression_of first.now) (expression_of second.now)) }
+    ensures { IfOk result (λ same.
+        AreSame same count (expression_of first.now) (expression_of second.now)) }
 {
     let first_form = match form_of(alloc, count, first) {
         Ok(form) => form,
@@ -51,8 +52,8 @@ fn are_equivalent(alloc: Global, first: &Func, second: &Func) -> Result<bool, Al
     have_equal_forms(alloc, first.params() as usize, left, right)
 }
 
-/// What comparing the two functions tells. Where their forms are equal no sample can tell them apart,
-/// so none is run.
+/// What comparing the two functions tells. Where their forms are equal no sample can tell them
+/// apart, so none is run.
 pub fn compare(alloc: Global, subject: &Subject) -> Result<Early, AllocError>
     ensures { IfOk result (Compares subject.now) }
 {

@@ -9,8 +9,6 @@
 // From words and files to an outcome.
 mod alone;
 mod judge;
-mod outcome;
-mod stop;
 
 // Two functions compared: by their forms, or by samples.
 mod compare;
@@ -18,20 +16,21 @@ mod form;
 mod samples;
 
 // The outcome told.
+mod status;
 mod tell;
 #[cfg(test)]
 mod tests;
 
 use alone::llreve_alone;
-use outcome::NO_MEMORY;
 use re_base::{HostFiles, HostOut};
+use status::NO_MEMORY;
 use std::alloc::AllocError;
 use std::env;
 use std::io::ErrorKind;
 use std::process::ExitCode;
 
-// The words behind the program's name. One that is no UTF-8 makes the arguments fail as a whole: like
-// no words, they are no command line.
+// The words behind the program's name. One that is no UTF-8 makes the arguments fail as a whole:
+// like no words, they are no command line.
 fn words(rt: &HostRuntime) -> Result<Vec<String>, AllocError> {
     let mut words = Vec::new(rt.alloc());
     match env::args(rt) {

@@ -47,8 +47,8 @@ fn difference(index: u32, pair: Pair) -> Early
     }
 }
 
-/// What the samples tell of the functions: the first one that tells them apart, or else what came of
-/// each.
+/// What the samples tell of the functions: the first one that tells them apart, or else what came
+/// of each.
 pub fn sample_all(alloc: Global, subject: &Subject) -> Result<Early, AllocError>
     ensures { IfOk result (Sampled subject.now) }
 {

@@ -1,21 +1,32 @@
 //! Writing an outcome.
-ghost use Rattle.llreve_cli.specs.Written.{IsKeptOutcome};
-ghost use Rattle.llreve_cli.specs.Tells.{Tells};
+ghost use Rattle.std.specs.Prelude.{IfOk, IfErr};
+ghost use Rattle.report.specs.Early.{IsKeptEarly};
+ghost use Rattle.report.specs.Faults.{IsKept};
+ghost use Rattle.llreve_cli.specs.NoVerdict.{IfRefused};
+ghost use Rattle.llreve_cli.specs.Change.{change};
+ghost use Rattle.llreve_cli.specs.Tells.{TellsJudged};
 
-use crate::outcome::{NO_MEMORY, NOT_WRITTEN, Outcome, early_status, fault_status};
+use crate::judge::NoVerdict;
+use crate::status::{NO_MEMORY, NOT_WRITTEN, early_status, fault_status};
 use re_base::{Sink, put_all};
-use report::{early_text, fault_text};
+use report::{Early, early_text, fault_text};
 use std::alloc::Global;
 
-/// Writes the outcome, and answers the status. The memory of the whole text is taken before its first
-/// byte goes out.
-pub fn tell<O: Sink, E: Sink>(alloc: Global, outcome: &Outcome, out: &mut O, err: &mut E) -> u8
-    requires { IsKeptOutcome outcome.now }
-    ensures { Tells outcome.now (O.written out.old) (O.written out.new) (E.written err.old) (E.written err.new)
-        (O.faults out.old) (O.faults out.new) (E.faults err.old) (E.faults err.new) result }
+/// Writes what was judged, and answers the status. The memory of the whole text is taken before its
+/// first byte goes out.
+pub fn tell<O: Sink, E: Sink>(
+    alloc: Global,
+    judged: &Result<Early, NoVerdict>,
+    out: &mut O,
+    err: &mut E,
+) -> u8
+    requires verdict { IfOk judged.now IsKeptEarly }
+    requires refusal { IfErr judged.now (IfRefused IsKept) }
+    ensures { TellsJudged judged.now (change O.Sink out.old out.new) (change E.Sink err.old err.new)
+        result }
 {
-    match outcome {
-        Outcome::Verdict(early) => {
+    match judged {
+        Ok(early) => {
             let Ok(text) = early_text(alloc, early) else {
                 return NO_MEMORY;
             };
@@ -24,7 +35,7 @@ pub fn tell<O: Sink, E: Sink>(alloc: Global, outcome: &Outcome, out: &mut O, err
                 Err(_) => NOT_WRITTEN,
             }
         }
-        Outcome::Refused(fault) => {
+        Err(NoVerdict::Refused(fault)) => {
             let Ok(text) = fault_text(alloc, fault) else {
                 return NO_MEMORY;
             };
@@ -33,5 +44,6 @@ pub fn tell<O: Sink, E: Sink>(alloc: Global, outcome: &Outcome, out: &mut O, err
                 Err(_) => NOT_WRITTEN,
             }
         }
+        Err(NoVerdict::Memory) => NO_MEMORY,
     }
 }

@@ -14,7 +14,9 @@ returns-in-Apart c =
       of_input = refl;
       of_first = refl;
       of_second = refl;
-      least = λ earlier other before. alike_not_apart c.args.subject.now c.loop-index.samples.items c.loop-index.invariant.1 earlier other (omega (arith, before, c.loop-index.invariant.0));
+      least = λ earlier other before.
+          alike_not_apart c.args.subject.now c.loop-index.samples.items c.loop-index.invariant.1 earlier other
+          (omega (arith, before, c.loop-index.invariant.0));
     })
 
 pub loop-index-preserved : goal.loop-index-preserved
@@ -24,5 +26,6 @@ loop-index-preserved c =
     let place : c.loop-index.index ≡ 0 + length before = omega (arith, c.loop-index.invariant.0) in
     rw c.in_ok-push-in-Alike.ensures.items (
       omega (arith, c.loop-index.invariant.0, length-append before (c.in-Alike.sample ∷ [])),
-      alike_push c.args.subject.now 0 before c.in-Alike.sample c.loop-index.invariant.1 (subst (λ (k : ℕ). IsAlike c.args.subject.now k c.in-Alike.sample) place alike),
+      alike_push c.args.subject.now 0 before c.in-Alike.sample c.loop-index.invariant.1
+          (subst (λ (k : ℕ). IsAlike c.args.subject.now k c.in-Alike.sample) place alike),
     )

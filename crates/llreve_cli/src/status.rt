@@ -1,4 +1,4 @@
-//! What the program tells, and the status that it ends with.
+//! The statuses that the program ends with.
 ghost use Rattle.std.specs.Prelude.{◌≡◌};
 ghost use Rattle.llreve_cli.specs.Written.{early_status, fault_status};
 
@@ -24,15 +24,6 @@ pub const NOT_WRITTEN: u8 = 5;
 
 /// The status of want of memory.
 pub const NO_MEMORY: u8 = 6;
-
-/// What the words and the files lead to.
-#[derive(Debug, Drop)]
-pub enum Outcome {
-    /// What is known of the two functions.
-    Verdict(Early),
-    /// There is no answer.
-    Refused(Fault),
-}
 
 /// The status of a verdict.
 pub fn early_status(early: &Early) -> u8
