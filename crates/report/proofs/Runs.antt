@@ -69,7 +69,8 @@ written_case true index run more e rises =
     rw (longer, ← same) refl
 written_case false index run more e rises = rw (rising-one index) refl
 
-written-with_run : (index : ℕ) (all : List (ℕ × ℕ)) → All (λ (run : ℕ × ℕ). run.0 ≤ run.1) all → flat_map numbers_of (with_run index index all) ≡ index ∷ flat_map numbers_of all
+written-with_run : (index : ℕ) (all : List (ℕ × ℕ)) → All (λ (run : ℕ × ℕ). run.0 ≤ run.1) all
+    → flat_map numbers_of (with_run index index all) ≡ index ∷ flat_map numbers_of all
 written-with_run index [] rise = rw (rising-one index) refl
 written-with_run index (run ∷ more) rise =
     written_case (eqb run.0 (suc index)) index run more refl (All-head (λ (run : ℕ × ℕ). run.0 ≤ run.1) run more rise)

@@ -1,5 +1,6 @@
 -- The laws of what is told of samples.
-use Rattle.std.proofs.Common.{◌≡◌, ℕ, zero, suc, ◌+◌, Bool, true, false, cond, List, [], ◌∷◌, get_or, arith, refl, ap, sym, ◌∙◌, inl, inr, ◌⊎◌, ⊎_elim, subst, ◌&&◌, Option, Some, None}
+use Rattle.std.proofs.Common.{◌≡◌, ℕ, zero, suc, ◌+◌, Bool, true, false, cond, ◌&&◌, List, [], ◌∷◌, get_or, Option, Some, None}
+use Rattle.std.proofs.Common.{arith, refl, ap, sym, ◌∙◌, inl, inr, ◌⊎◌, ⊎_elim, subst}
 use Rattle.std.specs.Prelude.{Contains, slice_get, codes}
 use Rattle.std.proofs.lemmas.Option.{slice_get-get_or, same_Some}
 use Rattle.std.proofs.lemmas.List.Elements.{All-get_or}
@@ -132,7 +133,8 @@ from_start cause samples index (k, is, has) =
 
 pub tells_cause : TellsCause
 tells_cause samples cause index =
-    ((λ contains. from_start cause samples index (place_from_contains 0 cause samples index contains)), (λ has. contains_from_place 0 cause samples index index (omega arith) has))
+    ((λ contains. from_start cause samples index (place_from_contains 0 cause samples index contains)),
+    (λ has. contains_from_place 0 cause samples index index (omega arith) has))
 
 -- ---- one cause for each sample
 

@@ -6,5 +6,8 @@ use Rattle.report.proofs.early.different_text.Goals as goal
 
 pub returns : goal.returns
 returns c =
-    subst (λ (values : List ℕ). IfOk c.format.result (λ text. string_bytes text ≡ codes "different\nsample " ++ decimal c.args.index ++ codes "\ninput" ++ values ++ codes "\nA returns " ++ signed_decimal c.args.first.now ++ codes "\nB returns " ++ signed_decimal c.args.second.now ++ codes "\n"))
+    subst (λ (values : List ℕ). IfOk c.format.result (λ text. string_bytes text
+    ≡ codes "different\nsample " ++ decimal c.args.index ++ codes "\ninput" ++ values
+    ++ codes "\nA returns " ++ signed_decimal c.args.first.now
+    ++ codes "\nB returns " ++ signed_decimal c.args.second.now ++ codes "\n"))
     c.in_ok-values.ensures (IfOk-weaker c.format.result _ _ (λ text output. simp append_assoc output) c.format.ensures.ok)

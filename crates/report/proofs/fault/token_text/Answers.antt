@@ -9,8 +9,10 @@ returns-in-NoToken c = rw c.in-NoToken.is (IfOk-weaker c.format.result _ _ (λ t
 
 pub returns-in-Unsupported : goal.returns-in-Unsupported
 returns-in-Unsupported c = rw c.in-Unsupported.is
-    (subst (λ (word : List ℕ). IfOk c.format-in-Unsupported.result (λ text. string_bytes text ≡ token_text c.args.name.now (tokens.Unsupported word c.in-Unsupported.line c.in-Unsupported.column)))
+    (subst (λ (word : List ℕ). IfOk c.format-in-Unsupported.result (λ text. string_bytes text
+    ≡ token_text c.args.name.now (tokens.Unsupported word c.in-Unsupported.line c.in-Unsupported.column)))
     c.text.ensures (IfOk-weaker c.format-in-Unsupported.result _ _ (λ text output. simp append_assoc output) c.format-in-Unsupported.ensures.ok))
 
 pub returns-in-LiteralRange : goal.returns-in-LiteralRange
-returns-in-LiteralRange c = rw c.in-LiteralRange.is (IfOk-weaker c.format-in-LiteralRange.result _ _ (λ text output. simp append_assoc output) c.format-in-LiteralRange.ensures.ok)
+returns-in-LiteralRange c = rw c.in-LiteralRange.is
+    (IfOk-weaker c.format-in-LiteralRange.result _ _ (λ text output. simp append_assoc output) c.format-in-LiteralRange.ensures.ok)
