@@ -132,9 +132,10 @@ from_start cause samples index (k, is, has) =
     rw same has
 
 pub tells_cause : TellsCause
-tells_cause samples cause index =
-    ((λ contains. from_start cause samples index (place_from_contains 0 cause samples index contains)),
-    (λ has. contains_from_place 0 cause samples index index (omega arith) has))
+tells_cause samples cause index = (
+  (λ contains. from_start cause samples index (place_from_contains 0 cause samples index contains)),
+  (λ has. contains_from_place 0 cause samples index index (omega arith) has),
+)
 
 -- ---- one cause for each sample
 
