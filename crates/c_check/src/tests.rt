@@ -102,7 +102,8 @@ fn signed(alloc: Global, op: UnOp, expr: RawExpr) -> Result<RawExpr, AllocError>
     Ok(RawExpr::Un(op, Boxed::new(alloc, expr)?))
 }
 
-/// A division of `a0` on line 7, as the answer to a condition on a function with so many parameters.
+/// A division of `a0` on line 7, as the answer to a condition on a function with so many
+/// parameters.
 fn divided(alloc: Global, count: u32, op: BinOp, divisor: RawExpr) -> Result<String, AllocError>
     requires { HasNaturalConstants (raw_expression_of divisor) }
 {

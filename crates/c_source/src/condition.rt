@@ -25,8 +25,8 @@ fn condition(alloc: Global, text: &[u8], func: &Func) -> Result<Expr, TextFault>
 }
 
 /// The condition on the inputs of `func` that a text is read as, or why it is read as none: its
-/// first faulty place, then what is wrong with its tokens, then the first rule that its tree breaks.
-/// The text has at most 65,536 bytes.
+/// first faulty place, then what is wrong with its tokens, then the first rule that its tree
+/// breaks. The text has at most 65,536 bytes.
 pub fn read_condition(alloc: Global, text: &[u8], func: &Func) -> Result<Expr, TextFault>
     requires { length text.now ≤ 65536 }
 

@@ -11,8 +11,8 @@ pub fn law_of_functions()
     ensures no_want { RefusalIsNoWant }
 {}
 
-/// A text is read as one condition on a function's inputs at most, or else is refused for one reason
-/// at most, which is not want of memory.
+/// A text is read as one condition on a function's inputs at most, or else is refused for one
+/// reason at most, which is not want of memory.
 pub fn law_of_conditions()
     ensures one { HasOneCondition }
     ensures one_refusal { HasOneConditionRefusal }

@@ -1,7 +1,7 @@
 //! Files that are read whole, by name.
 //!
-//! A name may have a text that is told, which no read changes. Each name has a count of faults, which never falls;
-//! an object may keep one count for all its names.
+//! A name may have a text that is told, which no read changes. Each name has a count of faults,
+//! which never falls; an object may keep one count for all its names.
 ghost use Rattle.std.specs.Prelude.{◌≡◌, ℕ, ◌≤◌, List, Option, IfOk, IsErrOf, vec_len};
 ghost use Rattle.re_base.specs.declared.TheConstants.{LONGEST_FILE};
 ghost use Rattle.re_base.specs.Causes.{Rose};

@@ -1,7 +1,8 @@
 //! The files of the system.
 //!
-//! Nothing is told of what they hold. Contracts see them as the count of their faults, which stops at the last value
-//! of a u64. What is right of a reader whose bytes are known is a contract of its own (`read_text`).
+//! Nothing is told of what they hold. Contracts see them as the count of their faults, which stops
+//! at the last value of a u64. What is right of a reader whose bytes are known is a contract of its
+//! own (`read_text`).
 ghost use Rattle.std.specs.Prelude.{◌≡◌, ℕ, ◌≤◌, ◌↔◌, ◌⊎◌, None, IfOk, IsErrOf, vec_len};
 ghost use Rattle.std.specs.IoError.{error_kind};
 ghost use Rattle.std.specs.declared.io.ErrorKind.{ErrorKind};

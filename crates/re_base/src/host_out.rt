@@ -1,7 +1,8 @@
 //! A writer of the system, as a sink.
 //!
-//! Nothing is told of what it holds. Contracts see it as the count of its faults, which stops at the last value of a
-//! u64. What is right of a writer whose bytes are known is a contract of its own (`write_some`).
+//! Nothing is told of what it holds. Contracts see it as the count of its faults, which stops at
+//! the last value of a u64. What is right of a writer whose bytes are known is a contract of its
+//! own (`write_some`).
 ghost use Rattle.std.specs.Prelude.{◌≡◌, ℕ, ◌<◌, ◌≤◌, None, length, IfOk};
 ghost use Rattle.std.specs.Io.KnownBytes.{WriteAppends};
 ghost use Rattle.re_base.specs.Causes.{HasCause, counted};

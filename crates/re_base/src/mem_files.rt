@@ -1,6 +1,7 @@
 //! Files in memory, of which the reads with given numbers fail.
 //!
-//! Contracts see them as the texts by name, with the counts of the reads. Of two files of one name the first counts.
+//! Contracts see them as the texts by name, with the counts of the reads. Of two files of one name
+//! the first counts.
 ghost use Rattle.std.specs.Prelude.{◌≡◌, ◌≤◌, IsErrOf, option_map};
 ghost use Rattle.re_base.specs.Causes.{Rose};
 ghost use Rattle.re_base.specs.MemFiles.{Answers, after_read, answer_of, no_reads, text_of, texts_of};
@@ -26,7 +27,8 @@ impl Model for MemFiles {
 }
 
 impl MemFiles {
-    /// Files with these names and texts. `fail` has the numbers of the reads that fail, from 0. Takes no memory.
+    /// Files with these names and texts. `fail` has the numbers of the reads that fail, from 0.
+    /// Takes no memory.
     pub fn new(files: Vec<(String, Vec<u8>)>, fail: Vec<u32>) -> MemFiles
         ensures { result ≡ no_reads (texts_of files.items) fail.items }
     {

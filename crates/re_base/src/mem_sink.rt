@@ -1,7 +1,7 @@
 //! A sink in memory, of which the calls with given numbers fail.
 //!
-//! It holds at most `room` bytes, and a call takes at most `most`, which is at least 1. Its memory is taken when it is
-//! made, so no later call wants any.
+//! It holds at most `room` bytes, and a call takes at most `most`, which is at least 1. Its memory
+//! is taken when it is made, so no later call wants any.
 ghost use Rattle.std.specs.Prelude.{◌≡◌, ◌<◌, ◌↔◌, IfOk, IsErr};
 ghost use Rattle.re_base.specs.Causes.{HasCause};
 ghost use Rattle.re_base.specs.MemSink.{IsSinkInMemory, Refuses, after_put, count_of, empty_sink};
@@ -34,8 +34,8 @@ impl Model for MemSink {
 }
 
 impl MemSink {
-    /// An empty sink for at most `room` bytes, of which a call takes at most `most`. `fail` has the numbers of the
-    /// calls that fail, from 0. Takes the memory for `room` bytes at once.
+    /// An empty sink for at most `room` bytes, of which a call takes at most `most`. `fail` has the
+    /// numbers of the calls that fail, from 0. Takes the memory for `room` bytes at once.
     pub fn new(
         alloc: Global,
         room: usize,
@@ -70,8 +70,8 @@ impl Sink for MemSink {
 
     ghost faults = { λ sink. sink.counts.faults };
 
-    /// A call whose number is among the failing ones, or that can take nothing of a piece that is not empty, is a
-    /// fault. Any other takes as much as it may. Takes no memory.
+    /// A call whose number is among the failing ones, or that can take nothing of a piece that is
+    /// not empty, is a fault. Any other takes as much as it may. Takes no memory.
     fn put(&mut self, piece: &[u8]) -> Result<usize, SinkFailed>
         ensures refused { IsErr result ↔ Refuses self.old piece.now }
         ensures count { IfOk result (λ count. count ≡ count_of self.old piece.now) }

@@ -18,8 +18,8 @@ pub trait Sink {
     /// How often the sink has failed.
     ghost faults: { Self → ℕ };
 
-    /// Appends the first bytes of the piece, at least one where there is one, and says how many. A sink that takes
-    /// nothing of a piece that is not empty has failed, and nothing was appended.
+    /// Appends the first bytes of the piece, at least one where there is one, and says how many. A
+    /// sink that takes nothing of a piece that is not empty has failed, and nothing was appended.
     fn put(&mut self, piece: &[u8]) -> Result<usize, SinkFailed>
         ensures within { IfOk result (λ count. count ≤ length piece.now) }
         ensures some { IfOk result (λ count. 0 < length piece.now → 0 < count) }
@@ -27,7 +27,8 @@ pub trait Sink {
         ensures cause { HasCause (faults self.old) (faults self.new) result };
 }
 
-/// Appends all of the text, and takes no memory. After a refusal a part of its front has been appended.
+/// Appends all of the text, and takes no memory. After a refusal a part of its front has been
+/// appended.
 pub fn put_all<S: Sink>(sink: &mut S, text: &[u8]) -> Result<(), SinkFailed>
     ensures all { OnOk result (Appends (S.written sink.old) (S.written sink.new) text.now) }
 

@@ -1,4 +1,5 @@
-//! The calls of an object in memory: which of them are to fail, how many were made, and how many of them failed.
+//! The calls of an object in memory: which of them are to fail, how many were made, and how many of
+//! them failed.
 //!
 //! Calls are numbered from 0. Both counts stop at the last value of a u64.
 ghost use Rattle.std.specs.Prelude.{◌≡◌, ◌≤◌};

@@ -5,7 +5,8 @@ use std::io::{ErrorKind, Write};
 use std::test::Fail;
 use std::{fs, io};
 
-// Room, most bytes a call, numbers of the calls that fail, the text, whether all of it is put, and what is held.
+// Room, most bytes a call, numbers of the calls that fail, the text, whether all of it is put, and
+// what is held.
 const PUT_ALL: [(usize, usize, &[u32], &str, bool, &str); 9] = [
     (5, 9, &[], "hello", true, "hello"),
     (9, 1, &[], "hello", true, "hello"),
@@ -34,7 +35,8 @@ fn put_all_puts_all_or_a_front(rt: HostRuntime) -> Result<(), Fail> {
     Ok(())
 }
 
-// The piece of each call in turn, and its answer, at room for 5 bytes of which a call takes 3, where call 2 fails.
+// The piece of each call in turn, and its answer, at room for 5 bytes of which a call takes 3,
+// where call 2 fails.
 const PUTS: [(&str, Result<usize, SinkFailed>); 6] = [
     ("abcd", Ok(3)),
     ("", Ok(0)),
@@ -116,7 +118,8 @@ fn files_of_the_system_are_read(rt: HostRuntime) -> Result<(), Fail> {
     Ok(())
 }
 
-// A writer that takes three bytes a call, but the first time is interrupted and the second takes nothing.
+// A writer that takes three bytes a call, but the first time is interrupted and the second takes
+// nothing.
 #[derive(Drop)]
 struct Stubborn {
     held: Vec<u8>,

@@ -12,7 +12,8 @@ fn goes_on(last: u32, index: u32) -> bool
 }
 
 fn push_run(text: &mut String, first: u32, last: u32) -> Result<(), AllocError>
-    ensures { OnOk result (string_bytes text.new ≡ string_bytes text.old ++ run_text (first, last)) }
+    ensures { OnOk result
+        (string_bytes text.new ≡ string_bytes text.old ++ run_text (first, last)) }
 {
     if first == last {
         write!(text, "{first}")

@@ -1,4 +1,5 @@
-//! Laws of what is told, each a clause of a function that does nothing. `specs/Laws.antt` states them.
+//! Laws of what is told, each a clause of a function that does nothing. `specs/Laws.antt` states
+//! them.
 ghost use Rattle.report.specs.Laws.{HasRuns, HasNoOtherRuns, TellsCause, TellsEachOnce};
 
 /// The runs of a list, written out one after the other, are the list again, and none can be longer.

@@ -15,7 +15,8 @@ fn is_same(sample: &Option<Skipped>, other: &Option<Skipped>) -> bool
     sample == other
 }
 
-/// The indexes of the samples that equal `cause`. Want of memory also stands for an index above 32 bits.
+/// The indexes of the samples that equal `cause`. Want of memory also stands for an index above 32
+/// bits.
 fn indexes_where(
     alloc: Global,
     samples: &[Option<Skipped>],
