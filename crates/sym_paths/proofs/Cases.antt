@@ -1,5 +1,5 @@
 -- The cases of a segment say what the graph does, both ways.
-use Rattle.std.proofs.Common.{◌≡◌, ◌↔◌, ℕ, zero, suc, ◌+◌, ◌<◌, ◌≤◌, List, [], ◌∷◌, ◌++◌, length, map, replicate, drop, All, Option, Some, None, IsSome, refl, sym, ap, subst, ◌∙◌, append_assoc, length-append, inl, inr, true≢false, arith}
+use Rattle.std.proofs.Common.{◌≡◌, ◌↔◌, ℕ, suc, ◌+◌, ◌<◌, List, [], ◌∷◌, ◌++◌, length, map, replicate, All, Option, Some, None, IsSome, refl, sym, ap, subst, ◌∙◌, append_assoc, length-append, inl, inr, true≢false, arith}
 use Rattle.std.specs.Prelude.{ℤ, pos, Result, Ok, Err}
 use Rattle.std.proofs.lemmas.List.{length-replicate}
 use Rattle.std.proofs.lemmas.List.Elements.{All-nil, All-weaker}
@@ -7,7 +7,6 @@ use Rattle.c_ast.specs.declared.place.Place.{Place}
 use Rattle.c_ast.specs.declared.place.Place.TheVariants as place
 use Rattle.c_ast.specs.Step.{spread}
 use Rattle.lin_terms.specs.declared.form.Form.{Form}
-use Rattle.lin_terms.specs.declared.row.Row.{Row}
 use Rattle.lin_terms.specs.Form.{value_at}
 use Rattle.lin_terms.specs.Row.{Holds}
 use Rattle.flow_graph.specs.declared.stop.Stop.{Stop}
@@ -17,10 +16,10 @@ use Rattle.flow_graph.specs.WellFormed.{IsFlowGraph}
 use Rattle.flow_graph.proofs.Laws.{graph_segment_is_determined}
 use Rattle.sym_paths.specs.declared.limit.PathLimit.{PathLimit}
 use Rattle.sym_paths.specs.declared.case.Case.{Case}
-use Rattle.sym_paths.specs.Walk.{State, Path, Walk, collect}
+use Rattle.sym_paths.specs.Walk.{Path, collect}
 use Rattle.sym_paths.specs.Nodes.{End}
-use Rattle.sym_paths.specs.Points.{HasValue, HaveValues, HoldsBefore, Extends, IsPoint, IsWholePoint, EachOf, SomeOf, ReachedFrom, Splits}
-use Rattle.sym_paths.specs.Cases.{room_for, variables_from, start_forms, start_state, segment_walk, fitted_row, fitted_form, completed, all_completed, cases_of, LeadsWith, LeadsTo}
+use Rattle.sym_paths.specs.Points.{HaveValues, HoldsBefore, Extends, IsPoint, IsWholePoint, SomeOf, ReachedFrom, Splits}
+use Rattle.sym_paths.specs.Cases.{room_for, variables_from, start_forms, start_state, segment_walk, fitted_row, fitted_form, completed, all_completed, LeadsTo}
 use Rattle.sym_paths.specs.Laws.{LawOfCases}
 use Rattle.sym_paths.proofs.Walks.{each_collected, some_collected, both_of, some_of_changed, picked}
 use Rattle.sym_paths.proofs.Points.{have_longer, holds_here, spread_have, values_are, variables_have}
@@ -50,7 +49,7 @@ node_is_below graph is (place.Mark mark) goes = on (stop_of graph.stops mark) re
     on (Some stop) found some = (is.afters mark stop found).0
 node_is_below graph is place.Exit goes = absurd goes
 
-width_is : (graph : FlowGraph) (l : Place) → GoesOnAt graph l → width_at graph l ≡ length (variables_at graph l)
+pub width_is : (graph : FlowGraph) (l : Place) → GoesOnAt graph l → width_at graph l ≡ length (variables_at graph l)
 width_is graph place.Entry goes = refl
 width_is graph (place.Mark mark) goes = refl
 width_is graph place.Exit goes = absurd goes

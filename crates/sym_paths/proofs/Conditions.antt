@@ -1,5 +1,5 @@
 -- The cases of a condition say which inputs meet it, both ways.
-use Rattle.std.proofs.Common.{◌≡◌, ◌↔◌, ℕ, ◌+◌, ◌≤◌, Bool, true, false, List, [], ◌∷◌, ◌++◌, length, map, replicate, All, refl, sym, ap, subst, ◌∙◌, append_assoc, length-append, inl, inr, true≢false, arith}
+use Rattle.std.proofs.Common.{◌≡◌, ◌↔◌, ℕ, ◌+◌, Bool, true, false, List, ◌++◌, length, map, replicate, All, refl, sym, ap, subst, ◌∙◌, append_assoc, length-append, true≢false, arith}
 use Rattle.std.specs.Prelude.{ℤ, pos, Result, Ok, Err}
 use Rattle.std.proofs.lemmas.List.{length-replicate}
 use Rattle.std.proofs.lemmas.List.Elements.{All-nil, All-weaker}
@@ -10,13 +10,13 @@ use Rattle.lin_terms.specs.declared.form.Form.{Form}
 use Rattle.lin_terms.specs.declared.row.Row.{Row}
 use Rattle.lin_terms.specs.Row.{Holds}
 use Rattle.sym_paths.specs.declared.limit.PathLimit.{PathLimit}
-use Rattle.sym_paths.specs.Walk.{State, Path, Walk, collect}
+use Rattle.sym_paths.specs.Walk.{State, Path, collect}
 use Rattle.sym_paths.specs.Symbolic.{condition, symbolic}
 use Rattle.sym_paths.specs.Points.{HaveValues, HoldsBefore, Extends, IsPoint, IsWholePoint, EachArrives, SomeOf, ReachedFrom, Splits}
 use Rattle.sym_paths.specs.Cases.{room_for, variables_from, start_state, fitted_row}
-use Rattle.sym_paths.specs.Condition.{where_true, condition_walk, completed_rows, rows_of_all, condition_cases, HoldWith, HoldAt}
+use Rattle.sym_paths.specs.Condition.{where_true, condition_walk, completed_rows, rows_of_all, HoldAt}
 use Rattle.sym_paths.specs.Laws.{LawOfConditions}
-use Rattle.sym_paths.proofs.Walks.{changed, gives_splits, onward_splits, onward_each, each_collected, some_collected, both_of, some_of_changed, picked}
+use Rattle.sym_paths.proofs.Walks.{gives_splits, onward_splits, onward_each, each_collected, some_collected, both_of, some_of_changed, picked}
 use Rattle.sym_paths.proofs.Points.{have_longer, holds_here, variables_have}
 use Rattle.sym_paths.proofs.Expressions.{condition_splits, symbolic_means}
 use Rattle.sym_paths.proofs.Fitted.{rows_have_length, rows_hold, rows_hold_before}

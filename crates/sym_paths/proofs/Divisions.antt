@@ -1,26 +1,25 @@
 -- The walk of a division splits points by the dividend's sign, with the quotient as one more number.
-use Rattle.std.proofs.Common.{◌≡◌, ℕ, zero, suc, ◌<◌, ◌≤◌, Bool, true, false, eqb, ltb, List, [], ◌∷◌, ◌++◌, length, get_or, All, Option, Some, None, refl, sym, ap, subst, ◌∙◌, append-nil, length-append, inl, inr, arith}
-use Rattle.std.specs.Prelude.{ℤ, pos, negsuc, neg_ℤ, ◌+ℤ◌, ◌*ℤ◌, ◌≤ℤ◌, ◌<ℤ◌, ◌⊎◌, int_div, int_rem, unsigned_abs}
+use Rattle.std.proofs.Common.{◌≡◌, ℕ, zero, suc, ◌<◌, ◌≤◌, Bool, true, false, eqb, ltb, List, [], ◌∷◌, ◌++◌, length, get_or, All, Option, Some, None, refl, sym, ap, subst, ◌∙◌, length-append, inl, inr, arith}
+use Rattle.std.specs.Prelude.{ℤ, pos, negsuc, neg_ℤ, ◌+ℤ◌, ◌*ℤ◌, ◌≤ℤ◌, ◌<ℤ◌, ◌⊎◌, int_div, int_rem}
 use Rattle.std.proofs.lemmas.Int.{ints}
 use Rattle.std.proofs.lemmas.Bool.{eqb-true}
 use Rattle.std.proofs.lemmas.Bool.Decides.{nat_tests}
 use Rattle.std.proofs.lemmas.List.Elements.{All-nil, All-cons, All-head, All-tail}
 use Rattle.lin_terms.specs.declared.form.Form.{Form}
 use Rattle.lin_terms.specs.declared.row.Row.{Row}
-use Rattle.lin_terms.specs.declared.sign.Sign.{Sign}
 use Rattle.lin_terms.specs.declared.sign.Sign.TheVariants.{Negative, NotPositive, NotNegative, Positive}
-use Rattle.lin_terms.specs.Form.{value_at, sum_of, multiple_of, difference_of, constant_form, variable_form, is_constant}
+use Rattle.lin_terms.specs.Form.{value_at, multiple_of, difference_of, constant_form, variable_form, is_constant}
 use Rattle.lin_terms.specs.Makes.{fitting}
 use Rattle.lin_terms.specs.Row.{Holds}
-use Rattle.lin_terms.specs.Sign.{HasSign, sign_row}
+use Rattle.lin_terms.specs.Sign.{sign_row}
 use Rattle.lin_terms.proofs.Laws.{sign_row-holds, value_at-sum_of, value_at-multiple_of, value_at-constant, value_at-variable_form, fitting_is_wanted}
-use Rattle.sym_paths.specs.Walk.{State, Path, Walk, gives, stops, onward}
+use Rattle.sym_paths.specs.Walk.{State, Path, Walk, onward}
 use Rattle.sym_paths.specs.Rows.{all_joined, judged, made}
-use Rattle.sym_paths.specs.Symbolic.{Parts, parts, rows_from_zero, rows_below_zero, two_ways, with_column, unknown, divided_by, parted_by, parted}
+use Rattle.sym_paths.specs.Symbolic.{Parts, parts, rows_from_zero, rows_below_zero, two_ways, with_column, divided_by, parted_by, parted}
 use Rattle.sym_paths.specs.Points.{HasValue, HoldsBefore, Extends, IsPoint, IsWholePoint, EachArrives, SomeArrives, ReachedFrom, Splits}
 use Rattle.sym_paths.proofs.Walks.{each_append, some_left, some_right, each_changed, some_changed, gives_splits, stops_splits}
 use Rattle.sym_paths.proofs.Points.{has_longer, has_here, hold_longer, extends_by, constant_has, unknown_has}
-use Rattle.sym_paths.proofs.Rows.{Joins, all_joined_joins}
+use Rattle.sym_paths.proofs.Rows.{all_joined_joins}
 use Rattle.sym_paths.proofs.Quotients.{from_zero_is, below_zero_is, rest_is, from_zero_bounds, below_zero_bounds, by_one}
 
 -- ---- what is made is the form that is wanted, or the walk meets a limit

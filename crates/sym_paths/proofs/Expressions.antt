@@ -1,6 +1,6 @@
 -- The forms that the walk of an expression arrives at have its value.
-use Rattle.std.proofs.Common.{◌≡◌, ℕ, zero, suc, ◌<◌, ◌≤◌, Bool, true, false, cond, not, ◌&&◌, ◌||◌, List, [], ◌∷◌, ◌++◌, get_or, length, Option, Some, None, refl, sym, ap, subst, ◌∙◌, inl, inr, arith}
-use Rattle.std.specs.Prelude.{ℤ, pos, negsuc, neg_ℤ, ◌+ℤ◌, ◌-ℤ◌, ◌*ℤ◌, ◌≤ℤ◌, int_lt, int_le, int_div, int_rem}
+use Rattle.std.proofs.Common.{◌≡◌, ℕ, ◌≤◌, Bool, true, false, cond, not, ◌&&◌, ◌||◌, List, ◌++◌, get_or, Some, None, refl, sym, ap, subst, ◌∙◌, arith}
+use Rattle.std.specs.Prelude.{ℤ, pos, negsuc, neg_ℤ, ◌+ℤ◌, ◌-ℤ◌, ◌*ℤ◌, int_lt, int_le, int_div, int_rem}
 use Rattle.std.proofs.lemmas.Int.{ints}
 use lib.IntN.{*ℤ_comm}
 use Rattle.c_ast.specs.declared.expr.UnOp.{UnOp}
@@ -13,14 +13,14 @@ use Rattle.lin_terms.specs.declared.form.Form.{Form}
 use Rattle.lin_terms.specs.declared.sign.Sign.{Sign}
 use Rattle.lin_terms.specs.Form.{value_at, sum_of, multiple_of, difference_of, product_of, constant_form, is_constant}
 use Rattle.lin_terms.proofs.Laws.{value_at-sum_of, value_at-multiple_of, value_at-constant}
-use Rattle.sym_paths.specs.Walk.{State, Walk, gives, stops, onward}
+use Rattle.sym_paths.specs.Walk.{State, Walk, gives, onward}
 use Rattle.sym_paths.specs.Rows.{split, made}
-use Rattle.sym_paths.specs.Symbolic.{nonzero_signs, zero_signs, negative_signs, not_positive_signs, positive_signs, not_negative_signs, tested_by, tested, negated_by, negated, Parts, divisor_of, Part, both, product_made, condition, chosen, test_form, as_value, compared, parted, unary_made, binary_made, quotient_made, rest_made, test_made, binary_walk, symbolic}
+use Rattle.sym_paths.specs.Symbolic.{nonzero_signs, zero_signs, negative_signs, not_positive_signs, positive_signs, not_negative_signs, tested_by, tested, negated_by, negated, Parts, divisor_of, Part, both, product_made, condition, chosen, test_form, as_value, compared, parted, unary_made, test_made, binary_walk, symbolic}
 use Rattle.sym_paths.specs.Points.{HasValue, HaveValues, Extends, Splits}
 use Rattle.sym_paths.specs.Laws.{LawOfExpressions}
 use Rattle.sym_paths.proofs.Walks.{changed, gives_splits, stops_splits, onward_splits}
 use Rattle.sym_paths.proofs.Points.{has_longer, have_longer, has_here, constant_has, variable_has}
-use Rattle.sym_paths.proofs.Rows.{EachSign, split_splits, made_splits}
+use Rattle.sym_paths.proofs.Rows.{split_splits, made_splits}
 use Rattle.sym_paths.proofs.Divisions.{HaveParts, parted_splits}
 use Rattle.sym_paths.proofs.Tests.{Covers, nonzero_covers, zero_covers, is_negative, is_positive, negative_covers, not_negative_covers, positive_covers, not_positive_covers, less_is, greater_is, less_equal_is, greater_equal_is, equal_is, not_equal_is, and_is, or_is}
 

@@ -1,6 +1,6 @@
 -- Each step lowers the weight of what is left to do, so the search ends.
-use Rattle.std.proofs.Common.{◌≡◌, ℕ, zero, suc, ◌+◌, ◌<◌, ◌≤◌, Bool, true, false, cond, List, [], ◌∷◌, ◌++◌, length, set, Option, Some, None, refl, ap, arith}
-use Rattle.std.specs.Prelude.{ℤ, pos, negsuc, ltb, eqb, unsigned_abs}
+use Rattle.std.proofs.Common.{◌≡◌, ℕ, zero, suc, ◌+◌, ◌<◌, ◌≤◌, Bool, true, false, cond, List, [], ◌∷◌, ◌++◌, length, set, Option, Some, None, arith}
+use Rattle.std.specs.Prelude.{ℤ, negsuc, ltb, eqb, unsigned_abs}
 use Rattle.c_ast.specs.declared.expr.UnOp.{UnOp}
 use Rattle.c_ast.specs.declared.expr.UnOp.TheVariants.{Plus, Minus, Not}
 use Rattle.c_ast.specs.declared.expr.BinOp.{BinOp}
@@ -14,11 +14,11 @@ use Rattle.lin_terms.specs.Makes.{fitting}
 use Rattle.lin_terms.specs.Sign.{sign_row, tight_fitting}
 use Rattle.flow_graph.specs.Operation.{Operation, Set, Branch, Mark, Return}
 use Rattle.flow_graph.specs.FlowGraph.{FlowGraph, operation_at}
-use Rattle.sym_paths.specs.Walk.{State, Path, Arrival, Arrives, Stops, Walk, gives, onward}
+use Rattle.sym_paths.specs.Walk.{State, Path, Arrives, Stops, Walk, gives, onward}
 use Rattle.sym_paths.specs.Rows.{holds_alone, decided, joining, joined_tight, joined, all_joined, split, judged, made}
-use Rattle.sym_paths.specs.Symbolic.{nonzero_signs, zero_signs, negative_signs, not_positive_signs, positive_signs, not_negative_signs, tested_by, tested, negated_by, negated, Parts, parts, rows_from_zero, rows_below_zero, two_ways, with_column, unknown, divided_by, parted_by, parted, divisor_of, product_made, test_form, as_value, compared, unary_made, binary_made, quotient_made, rest_made}
-use Rattle.sym_paths.specs.Machine.{Task, Value, Unary, Binary, Quotient, Rest, Test, AndThen, OrElse, Choose, Todo, todo, operator_tasks, done, by_test, step, Goal, ToSet, ToBranch, ToReturn, Pending, Move, Goes, Ends, entered_by, entered, used, with_todo, advanced_by, advanced}
-use Rattle.sym_paths.specs.Heights.{expression_height, task_height, tasks_height, goal_height, operation_height, four, node_height, pending_height, move_height, weight, weights}
+use Rattle.sym_paths.specs.Symbolic.{nonzero_signs, zero_signs, negative_signs, not_positive_signs, positive_signs, not_negative_signs, tested_by, tested, negated_by, negated, parts, rows_from_zero, rows_below_zero, two_ways, with_column, unknown, divided_by, parted_by, parted, product_made, test_form, as_value, compared, unary_made, binary_made, quotient_made, rest_made}
+use Rattle.sym_paths.specs.Machine.{Task, Value, Unary, Binary, Quotient, Rest, Test, AndThen, OrElse, Choose, Todo, todo, operator_tasks, done, by_test, step, Goal, ToSet, ToBranch, ToReturn, Pending, Move, Goes, entered_by, entered, used, with_todo, advanced_by, advanced}
+use Rattle.sym_paths.specs.Heights.{expression_height, task_height, tasks_height, goal_height, operation_height, four, node_height, pending_height, move_height, weights}
 use Rattle.sym_paths.specs.Points.{EachArrives}
 use Rattle.sym_paths.proofs.Walks.{each_append, onward_each}
 
@@ -347,7 +347,7 @@ module _ (room : ℕ) (graph : FlowGraph) where
   times zero n = 0
   times (suc k) n = n + times k n
 
-  four_positive : (n : ℕ) → 0 < four n
+  pub four_positive : (n : ℕ) → 0 < four n
   four_positive zero = omega arith
   four_positive (suc n) = let h = four_positive n in omega arith
 

@@ -1,5 +1,5 @@
 -- Over the columns in use, rows and forms say the same at points of these columns.
-use Rattle.std.proofs.Common.{◌≡◌, ◌↔◌, ℕ, zero, suc, ◌+◌, ◌≤◌, List, [], ◌∷◌, ◌++◌, length, map, take, replicate, All, refl, sym, ap, subst, ◌∙◌, length-append, arith}
+use Rattle.std.proofs.Common.{◌≡◌, ◌↔◌, ℕ, zero, suc, ◌+◌, ◌≤◌, List, [], ◌∷◌, ◌++◌, ◌<◌, get_or, take-suc, length, map, take, replicate, All, refl, sym, ap, subst, ◌∙◌, length-append, arith}
 use Rattle.std.specs.Prelude.{ℤ, pos, ◌+ℤ◌, ◌*ℤ◌}
 use Rattle.std.proofs.lemmas.Int.{ints}
 use Rattle.std.proofs.lemmas.List.{length-replicate, length-take-le}
@@ -112,3 +112,22 @@ values_before point n (form ∷ forms) lengths =
     (value_fitted n form point (omega (arith, here, exact)) ∙ sym (value_more form point n))
     ∙ ap (λ (zs : List ℤ). value_at form (point ++ replicate n (pos 0)) ∷ zs)
     (values_before point n forms (All-tail (λ (f : Form). length f.coefs ≡ length point) (fitted_form n form) (map (fitted_form n) forms) lengths))
+
+-- ---- one number after the other
+
+number_padded : (numbers : List ℤ) (count i : ℕ) → get_or (numbers ++ replicate count (pos 0)) i (pos 0) ≡ get_or numbers i (pos 0)
+number_padded [] zero i = refl
+number_padded [] (suc count) zero = refl
+number_padded [] (suc count) (suc i) = number_padded [] count i
+number_padded (n ∷ numbers) count zero = refl
+number_padded (n ∷ numbers) count (suc i) = number_padded numbers count i
+
+pub fitted_next : (numbers : List ℤ) (count i : ℕ) → i < count
+    → take i (numbers ++ replicate count (pos 0)) ++ get_or numbers i (pos 0) ∷ [] ≡ take (i + 1) (numbers ++ replicate count (pos 0))
+fitted_next numbers count i below =
+    let long : length (numbers ++ replicate count (pos 0)) ≡ length numbers + count =
+    length-append numbers (replicate count (pos 0)) ∙ ap (λ (k : ℕ). length numbers + k) (length-replicate count (pos 0)) in
+    let one : i + 1 ≡ suc i = omega arith in
+    ap (λ (z : ℤ). take i (numbers ++ replicate count (pos 0)) ++ z ∷ []) (sym (number_padded numbers count i))
+    ∙ sym (take-suc (numbers ++ replicate count (pos 0)) i (pos 0) (omega (arith, long)))
+    ∙ ap (λ (k : ℕ). take k (numbers ++ replicate count (pos 0))) (sym one)

@@ -16,3 +16,8 @@ pub mod Stepping
 pub mod Searching
 pub mod Falling
 pub mod Prefix
+pub mod Waiting
+pub mod Joining
+pub mod Starting
+pub mod Beginning
+pub mod Advancing

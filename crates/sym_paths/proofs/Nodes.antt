@@ -1,11 +1,11 @@
 -- The walk from a node says what a run does from it.
-use Rattle.std.proofs.Common.{◌≡◌, ℕ, zero, suc, ◌+◌, ◌<◌, ◌≤◌, ◌⊎◌, Bool, true, false, cond, List, [], ◌∷◌, ◌++◌, length, set, Option, Some, None, refl, sym, ap, subst, ◌∙◌, inl, inr, arith}
+use Rattle.std.proofs.Common.{◌≡◌, ℕ, zero, suc, ◌<◌, ◌⊎◌, Bool, true, false, cond, List, [], ◌∷◌, length, set, Option, Some, None, refl, sym, ap, subst, ◌∙◌, inl, inr, arith}
 use Rattle.std.specs.Prelude.{ℤ, pos, slice_get}
 use Rattle.std.specs.Option.{option_map}
 use Rattle.std.proofs.lemmas.Option.{slice_get-get_or}
 use Rattle.c_ast.specs.declared.place.Place.{Place}
 use Rattle.c_ast.specs.declared.place.Place.TheVariants as place
-use Rattle.c_ast.specs.Value.{eval, is_nonzero, CanEvaluate}
+use Rattle.c_ast.specs.Value.{eval, is_nonzero}
 use Rattle.c_ast.specs.Returns.{always}
 use Rattle.c_ast.specs.Segment.{at_mark, at_exit}
 use Rattle.lin_terms.specs.declared.form.Form.{Form}
@@ -14,11 +14,11 @@ use Rattle.flow_graph.specs.declared.op.Op.{Op}
 use Rattle.flow_graph.specs.Operation.{Operation, Set, Branch, Mark, Return, operation_of}
 use Rattle.flow_graph.specs.FlowGraph.{FlowGraph, operation_at, variables_at}
 use Rattle.flow_graph.specs.Run.{Turn, Goes, turn, values_with, values_of, seen_turn, seen_at, seen_from}
-use Rattle.flow_graph.specs.WellFormed.{IsMark, Leads, Fits, IsFlowGraph}
-use Rattle.sym_paths.specs.Walk.{State, Walk, gives, onward}
+use Rattle.flow_graph.specs.WellFormed.{IsMark, Leads, IsFlowGraph}
+use Rattle.sym_paths.specs.Walk.{State, gives}
 use Rattle.sym_paths.specs.Symbolic.{condition, symbolic}
 use Rattle.sym_paths.specs.Nodes.{End, end_at, operation_walk, walk_from}
-use Rattle.sym_paths.specs.Points.{HasValue, HaveValues, Extends, Splits}
+use Rattle.sym_paths.specs.Points.{HasValue, HaveValues, Splits}
 use Rattle.sym_paths.proofs.Walks.{changed, gives_splits, onward_splits}
 use Rattle.sym_paths.proofs.Points.{have_longer, have_set, listed_have}
 use Rattle.sym_paths.proofs.Expressions.{IsStable, carried, condition_splits, symbolic_means}

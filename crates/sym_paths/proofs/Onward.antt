@@ -1,6 +1,6 @@
 -- Walks that go on from walks that go on.
-use Rattle.std.proofs.Common.{◌≡◌, List, [], ◌∷◌, ◌++◌, refl, sym, ap, ◌∙◌, append_assoc, append-nil}
-use Rattle.sym_paths.specs.Walk.{State, Path, Arrival, Arrives, Stops, Walk, gives, onward}
+use Rattle.std.proofs.Common.{◌≡◌, [], ◌∷◌, ◌++◌, refl, sym, ap, ◌∙◌, append_assoc, append-nil}
+use Rattle.sym_paths.specs.Walk.{State, Arrives, Stops, Walk, gives, onward}
 
 module _ {A B : Type 0} where
   pub onward_append : (v w : Walk A) (next : A → State → Walk B) → onward (v ++ w) next ≡ onward v next ++ onward w next

@@ -1,12 +1,11 @@
 -- A step reads no row: from a state with more rows in front it does the same, with these rows in front.
-use Rattle.std.proofs.Common.{◌≡◌, ℕ, zero, suc, Bool, true, false, cond, List, [], ◌∷◌, ◌++◌, map, set, Option, Some, None, refl, sym, ap, ◌∙◌, append_assoc}
-use Rattle.std.specs.Prelude.{ℤ, pos, negsuc, ltb, eqb, unsigned_abs}
-use Rattle.c_ast.specs.declared.place.Place.TheVariants as place
+use Rattle.std.proofs.Common.{◌≡◌, ℕ, zero, suc, Bool, true, false, cond, List, [], ◌∷◌, ◌++◌, set, Option, Some, None, refl, sym, ap, ◌∙◌, append_assoc}
+use Rattle.std.specs.Prelude.{ℤ, negsuc, ltb, eqb, unsigned_abs}
 use Rattle.c_ast.specs.declared.expr.UnOp.{UnOp}
 use Rattle.c_ast.specs.declared.expr.UnOp.TheVariants.{Plus, Minus, Not}
 use Rattle.c_ast.specs.declared.expr.BinOp.{BinOp}
 use Rattle.c_ast.specs.declared.expr.BinOp.TheVariants.{Mul, Div, Rem, Add, Sub, Less, LessEq, Greater, GreaterEq, Equal, NotEqual, And, Or}
-use Rattle.c_ast.specs.Tree.{Expression, Num, Var, Un, Bin, Cond}
+use Rattle.c_ast.specs.Tree.{Num, Var, Un, Bin, Cond}
 use Rattle.lin_terms.specs.declared.form.Form.{Form}
 use Rattle.lin_terms.specs.declared.row.Row.{Row}
 use Rattle.lin_terms.specs.declared.sign.Sign.{Sign}
@@ -15,10 +14,10 @@ use Rattle.lin_terms.specs.Makes.{fitting}
 use Rattle.lin_terms.specs.Sign.{sign_row, tight_fitting}
 use Rattle.flow_graph.specs.Operation.{Operation, Set, Branch, Mark, Return}
 use Rattle.flow_graph.specs.FlowGraph.{FlowGraph, operation_at}
-use Rattle.sym_paths.specs.Walk.{State, Path, Arrival, Arrives, Stops, Walk, gives, onward, behind, arrival_behind, walk_behind}
-use Rattle.sym_paths.specs.Rows.{holds_alone, with_row, decided, joining, joined_tight, joined, all_joined, split, judged, made}
+use Rattle.sym_paths.specs.Walk.{State, Arrives, Stops, Walk, gives, onward, behind, arrival_behind, walk_behind}
+use Rattle.sym_paths.specs.Rows.{holds_alone, decided, joining, joined_tight, joined, all_joined, split, judged, made}
 use Rattle.sym_paths.specs.Symbolic.{nonzero_signs, zero_signs, negative_signs, not_positive_signs, positive_signs, not_negative_signs, tested_by, tested, negated_by, negated, Parts, parts, rows_from_zero, rows_below_zero, two_ways, with_column, unknown, divided_by, parted_by, parted, product_made, test_form, as_value, compared, unary_made, binary_made, quotient_made, rest_made}
-use Rattle.sym_paths.specs.Machine.{Task, Value, Unary, Binary, Quotient, Rest, Test, AndThen, OrElse, Choose, Todo, todo, operator_tasks, done, by_test, step, Goal, ToSet, ToBranch, ToReturn, Pending, Move, Goes, Ends, entered_by, entered, used, with_todo, advanced_by, advanced}
+use Rattle.sym_paths.specs.Machine.{Task, Value, Unary, Binary, Quotient, Rest, Test, AndThen, OrElse, Choose, Todo, todo, done, by_test, step, Goal, ToSet, ToBranch, ToReturn, Pending, Goes, entered_by, entered, used, with_todo, advanced_by, advanced}
 
 module _ (front : List Row) where
   append_behind : {A : Type 0} (v w : Walk A) → walk_behind front (v ++ w) ≡ walk_behind front v ++ walk_behind front w

@@ -1,6 +1,6 @@
 -- Walks that rows join arrive where the rows hold; walks by signs arrive by the sign that a form's value has.
-use Rattle.std.proofs.Common.{◌≡◌, ◌↔◌, ℕ, zero, suc, Bool, true, false, cond, eqb, ◌&&◌, List, [], ◌∷◌, ◌++◌, All, Option, Some, None, refl, sym, ap, subst, ◌∙◌, inl, inr, true≢false, arith}
-use Rattle.std.specs.Prelude.{ℤ, pos, negsuc, ◌+ℤ◌, ◌⊎◌, int_le, MatchOption, ◌≤ℤ◌, T, unsigned_abs}
+use Rattle.std.proofs.Common.{◌≡◌, ◌↔◌, suc, Bool, true, false, cond, eqb, ◌&&◌, List, [], ◌∷◌, ◌++◌, All, Option, Some, None, refl, sym, ap, subst, ◌∙◌, inl, inr, true≢false, arith}
+use Rattle.std.specs.Prelude.{ℤ, pos, negsuc, ◌⊎◌, int_le, MatchOption, ◌≤ℤ◌, T, unsigned_abs}
 use Rattle.std.proofs.lemmas.Int.{ints}
 use Rattle.std.proofs.lemmas.Bool.{eqb-true}
 use Rattle.std.proofs.lemmas.List.Elements.{All-push, All-pop, All-nil, All-cons, All-head, All-tail}
@@ -8,15 +8,15 @@ use Rattle.lin_terms.specs.declared.form.Form.{Form}
 use Rattle.lin_terms.specs.declared.row.Row.{Row}
 use Rattle.lin_terms.specs.declared.sign.Sign.{Sign}
 use Rattle.lin_terms.specs.Bounds.{fits_form, fit_form}
-use Rattle.lin_terms.specs.Form.{value_at, are_zeros, is_constant}
+use Rattle.lin_terms.specs.Form.{value_at, are_zeros}
 use Rattle.lin_terms.specs.Makes.{fitting}
 use Rattle.lin_terms.specs.Row.{Allows, Holds}
 use Rattle.lin_terms.specs.Sign.{HasSign, sign_row, tight_fitting}
 use Rattle.lin_terms.specs.Tight.{tight_of}
 use Rattle.lin_terms.proofs.Laws.{tight_keeps, sign_row-holds, value_at-constant, fitting_is_wanted}
-use Rattle.sym_paths.specs.Walk.{State, Path, Walk, gives, stops, onward}
-use Rattle.sym_paths.specs.Rows.{holds_alone, with_row, decided, joining, joined_tight, joined, all_joined, split, judged, made}
-use Rattle.sym_paths.specs.Points.{HasValue, HoldsBefore, Extends, IsPoint, IsWholePoint, EachArrives, SomeArrives, ReachedFrom, Splits}
+use Rattle.sym_paths.specs.Walk.{State, Walk}
+use Rattle.sym_paths.specs.Rows.{holds_alone, decided, joining, joined_tight, joined, all_joined, split, judged, made}
+use Rattle.sym_paths.specs.Points.{HasValue, HoldsBefore, IsPoint, IsWholePoint, EachArrives, SomeArrives, ReachedFrom, Splits}
 use Rattle.sym_paths.proofs.Walks.{each_append, some_left, some_right, each_changed, some_changed, onward_each, onward_some, extends_itself, gives_splits, stops_splits}
 use Rattle.sym_paths.proofs.Points.{has_here}
 

@@ -1,6 +1,6 @@
 -- Rows of the table of walks, and limits, by computation.
-use Rattle.std.proofs.Common.{◌≡◌, ℕ, Bool, true, false, List, [], ◌∷◌, refl, replicate}
-use Rattle.std.specs.Prelude.{ℤ, pos, negsuc, Result, Ok, Err}
+use Rattle.std.proofs.Common.{◌≡◌, true, false, List, [], ◌∷◌, refl}
+use Rattle.std.specs.Prelude.{ℤ, pos, negsuc, Ok, Err}
 use Rattle.c_ast.specs.declared.expr.UnOp.TheVariants.{Not}
 use Rattle.c_ast.specs.declared.expr.BinOp.TheVariants.{Mul, Div, Rem, Add, Sub, Less, LessEq, Greater, GreaterEq, Equal, NotEqual, And, Or}
 use Rattle.c_ast.specs.Tree.{Expression, Num, Var, Un, Bin, Cond}

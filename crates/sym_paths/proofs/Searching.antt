@@ -1,5 +1,5 @@
 -- The search over a list of cases under way is the walk.
-use Rattle.std.proofs.Common.{◌≡◌, ℕ, zero, suc, Bool, true, false, cond, List, [], ◌∷◌, ◌++◌, set, Option, Some, None, refl, sym, ◌∙◌, ap}
+use Rattle.std.proofs.Common.{◌≡◌, ℕ, zero, suc, cond, List, [], ◌∷◌, ◌++◌, set, Option, Some, None, refl, sym, ◌∙◌, ap}
 use Rattle.std.specs.Prelude.{pos}
 use Rattle.c_ast.specs.declared.place.Place.TheVariants as place
 use Rattle.c_ast.specs.Tree.{Expression}
@@ -8,7 +8,7 @@ use Rattle.lin_terms.specs.Form.{constant_form}
 use Rattle.flow_graph.specs.Operation.{Operation, Set, Branch, Mark, Return}
 use Rattle.flow_graph.specs.FlowGraph.{FlowGraph, operation_at, variables_at}
 use Rattle.flow_graph.specs.Run.{values_with}
-use Rattle.sym_paths.specs.Walk.{State, Path, Arrives, Stops, Walk, gives, onward, more, collect}
+use Rattle.sym_paths.specs.Walk.{State, Arrives, Walk, gives, onward, more, collect}
 use Rattle.sym_paths.specs.Symbolic.{tested, symbolic}
 use Rattle.sym_paths.specs.Nodes.{End, end_at, operation_walk, walk_from}
 use Rattle.sym_paths.specs.Machine.{Task, Value, Todo, does, does_all, step, Goal, ToSet, ToBranch, ToReturn, Pending, Move, Goes, Ends, reached, resumed, resume, evaluating, entered_by, entered, used, with_todo, advanced_by, advanced}

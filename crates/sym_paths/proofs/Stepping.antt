@@ -1,17 +1,16 @@
 -- A step of a task, and then what is left to do, is what the task does.
-use Rattle.std.proofs.Common.{◌≡◌, ℕ, zero, suc, Bool, true, false, cond, List, [], ◌∷◌, ◌++◌, get_or, refl, sym, ◌∙◌, ap}
-use Rattle.std.specs.Prelude.{ℤ, pos}
-use Rattle.c_ast.specs.declared.expr.UnOp.{UnOp}
+use Rattle.std.proofs.Common.{◌≡◌, ℕ, Bool, true, false, cond, List, [], ◌∷◌, get_or, refl, sym, ◌∙◌, ap}
+use Rattle.std.specs.Prelude.{pos}
 use Rattle.c_ast.specs.declared.expr.BinOp.{BinOp}
 use Rattle.c_ast.specs.declared.expr.BinOp.TheVariants.{Mul, Div, Rem, Add, Sub, Less, LessEq, Greater, GreaterEq, Equal, NotEqual, And, Or}
 use Rattle.c_ast.specs.Tree.{Expression, Num, Var, Un, Bin, Cond}
 use Rattle.lin_terms.specs.declared.form.Form.{Form}
 use Rattle.lin_terms.specs.Form.{constant_form}
-use Rattle.sym_paths.specs.Walk.{State, Path, Arrives, Stops, Walk, gives, onward}
+use Rattle.sym_paths.specs.Walk.{State, Walk, gives, onward}
 use Rattle.sym_paths.specs.Rows.{made}
-use Rattle.sym_paths.specs.Symbolic.{tested, divisor_of, Part, both, condition, chosen, test_form, as_value, unary_made, binary_made, quotient_made, rest_made, test_made, binary_walk, symbolic}
+use Rattle.sym_paths.specs.Symbolic.{tested, divisor_of, Part, both, condition, chosen, test_form, as_value, unary_made, binary_made, quotient_made, rest_made, test_made, symbolic}
 use Rattle.sym_paths.specs.Machine.{Task, Value, Unary, Binary, Quotient, Rest, Test, AndThen, OrElse, Choose, Todo, todo, operator_tasks, on_top, does, does_all, done, by_test, step}
-use Rattle.sym_paths.proofs.Onward.{onward_append, onward_one, onward_same, onward_gives, onward_assoc}
+use Rattle.sym_paths.proofs.Onward.{onward_one, onward_same, onward_gives, onward_assoc}
 
 module _ (room : ℕ) (forms : List Form) where
   abbrev pub does_todo : Todo → State → Walk (List Form)

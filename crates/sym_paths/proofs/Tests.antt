@@ -1,6 +1,6 @@
 -- The signs of a difference decide each comparison.
-use Rattle.std.proofs.Common.{◌≡◌, ℕ, zero, suc, Bool, true, false, cond, not, ◌&&◌, ◌||◌, List, [], ◌∷◌, refl, sym, ap, ◌∙◌, inl, inr, true≢false, arith}
-use Rattle.std.specs.Prelude.{ℤ, pos, negsuc, ◌+ℤ◌, ◌-ℤ◌, ◌*ℤ◌, ◌≤ℤ◌, ◌<ℤ◌, T, int_lt, int_le}
+use Rattle.std.proofs.Common.{◌≡◌, zero, suc, Bool, true, false, cond, not, ◌&&◌, ◌||◌, List, refl, ap, ◌∙◌, inl, inr, arith}
+use Rattle.std.specs.Prelude.{ℤ, pos, negsuc, ◌-ℤ◌, ◌≤ℤ◌, ◌<ℤ◌, T, int_lt, int_le}
 use Rattle.std.specs.Int.Signed.{lt_z_yes, le_z_yes}
 use Rattle.std.proofs.lemmas.Int.{ints}
 use Rattle.lin_terms.specs.declared.sign.Sign.{Sign}

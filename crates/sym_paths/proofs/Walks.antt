@@ -3,7 +3,7 @@ use Rattle.std.proofs.Common.{◌≡◌, ℕ, zero, suc, List, [], ◌∷◌, �
 use Rattle.std.specs.Prelude.{ℤ, ◌⊎◌, Result, Ok, Err}
 use Rattle.sym_paths.specs.declared.limit.PathLimit.{PathLimit}
 use Rattle.sym_paths.specs.Walk.{State, Path, Arrives, Stops, Walk, gives, stops, more, collect, onward}
-use Rattle.sym_paths.specs.Points.{Extends, IsPoint, IsWholePoint, EachArrives, SomeArrives, EachOf, SomeOf, ReachedFrom, Splits}
+use Rattle.sym_paths.specs.Points.{Extends, EachArrives, SomeArrives, EachOf, SomeOf, ReachedFrom, Splits}
 
 module _ {A : Type 0} where
   pub each_append : (P : Path A → Type 0) (v w : Walk A) → EachArrives P v → EachArrives P w → EachArrives P (v ++ w)

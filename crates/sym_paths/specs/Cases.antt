@@ -1,11 +1,11 @@
 -- The cases of a segment, and what they say.
-use Rattle.std.specs.Prelude.{◌≡◌, ◌↔◌, ℕ, zero, suc, ◌+◌, ◌-◌, pos, ℤ, List, [], ◌∷◌, ◌++◌, take, replicate, length, map, All, Result, Ok, Err}
+use Rattle.std.specs.Prelude.{◌≡◌, ℕ, zero, suc, ◌+◌, pos, ℤ, List, [], ◌∷◌, ◌++◌, take, replicate, length, map, All, Result, Ok, Err}
 use Rattle.c_ast.specs.declared.place.Place.{Place}
 use Rattle.lin_terms.specs.declared.form.Form.{Form}
 use Rattle.lin_terms.specs.declared.row.Row.{Row}
 use Rattle.lin_terms.specs.Form.{value_at, constant_form, variable_form}
 use Rattle.lin_terms.specs.Row.{Holds}
-use Rattle.flow_graph.specs.FlowGraph.{FlowGraph, node_after, variables_at, width_at}
+use Rattle.flow_graph.specs.FlowGraph.{FlowGraph, node_after, variables_at}
 use Rattle.c_ast.specs.Step.{spread_with}
 use Rattle.sym_paths.specs.declared.limit.PathLimit.{PathLimit}
 use Rattle.sym_paths.specs.declared.case.Case.{Case}

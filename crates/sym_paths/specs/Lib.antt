@@ -4,6 +4,9 @@ pub mod Symbolic
 pub mod Nodes
 pub mod Machine
 pub mod Heights
+pub mod Arrivals
+pub mod Waiting
+pub mod Starts
 pub mod Points
 pub mod Cases
 pub mod Condition

@@ -1,10 +1,10 @@
 -- The walk in single steps: what is left of an expression is a list of tasks over a stack of forms, and the search is a
 -- list of cases under way, of which the first takes its next step.
-use Rattle.std.specs.Prelude.{ℕ, zero, suc, ℤ, pos, Bool, true, false, if◌then◌else◌, List, [], ◌∷◌, ◌++◌, slice_index_or, slice_set, Option, Some, None}
+use Rattle.std.specs.Prelude.{ℕ, zero, suc, ℤ, pos, true, false, if◌then◌else◌, List, [], ◌∷◌, ◌++◌, slice_index_or, slice_set, Option, Some, None}
 use Rattle.c_ast.specs.declared.place.Place.TheVariants as place
 use Rattle.c_ast.specs.declared.expr.UnOp.{UnOp}
 use Rattle.c_ast.specs.declared.expr.BinOp.{BinOp}
-use Rattle.c_ast.specs.declared.expr.BinOp.TheVariants.{Mul, Div, Rem, Add, Sub, Less, LessEq, Greater, GreaterEq, Equal, NotEqual, And, Or}
+use Rattle.c_ast.specs.declared.expr.BinOp.TheVariants.{Div, Rem, And, Or}
 use Rattle.c_ast.specs.Tree.{Expression, Num, Var, Un, Bin, Cond}
 use Rattle.lin_terms.specs.declared.form.Form.{Form}
 use Rattle.lin_terms.specs.Form.{constant_form}

@@ -1,10 +1,10 @@
 -- Points of a walk: numbers for the variables of the start, and for the unknowns so far.
-use Rattle.std.specs.Prelude.{◌≡◌, ℕ, ◌≤◌, ◌⊎◌, ℤ, List, [], ◌∷◌, ◌++◌, length, All}
+use Rattle.std.specs.Prelude.{◌≡◌, ◌≤◌, ◌⊎◌, ℤ, List, [], ◌∷◌, ◌++◌, length, All}
 use Rattle.lin_terms.specs.declared.form.Form.{Form}
 use Rattle.lin_terms.specs.declared.row.Row.{Row}
 use Rattle.lin_terms.specs.Form.{value_at}
 use Rattle.lin_terms.specs.Row.{Holds}
-use Rattle.sym_paths.specs.Walk.{State, Path, Arrival, Arrives, Stops, Walk}
+use Rattle.sym_paths.specs.Walk.{State, Path, Arrives, Stops, Walk}
 
 -- The form has this value at the point, whatever numbers come behind it.
 abbrev pub HasValue : List ℤ → Form → ℤ → Type 0

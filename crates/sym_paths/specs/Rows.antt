@@ -1,5 +1,5 @@
 -- How rows join a walk, and how a walk splits by the signs that a form may have.
-use Rattle.std.specs.Prelude.{ℕ, Bool, true, false, ◌&&◌, if◌then◌else◌, int_le, pos, unsigned_abs, ◌==◌, List, [], ◌∷◌, ◌++◌, Option, Some, None}
+use Rattle.std.specs.Prelude.{Bool, true, false, if◌then◌else◌, int_le, pos, unsigned_abs, ◌==◌, List, [], ◌∷◌, ◌++◌, Option, Some, None}
 use Rattle.lin_terms.specs.declared.form.Form.{Form}
 use Rattle.lin_terms.specs.declared.row.Row.{Row}
 use Rattle.lin_terms.specs.declared.sign.Sign.{Sign}

@@ -12,9 +12,22 @@
 mod case;
 mod limit;
 
+// One step of a walk.
+mod advance;
+mod arrival;
+mod made;
+mod task;
+mod tested;
+
+// The search for all cases.
+mod search;
+mod start;
+mod walk;
+
 // What cases promise.
 mod law;
 
 pub use case::Case;
 pub use law::{law_of_cases, law_of_conditions, law_of_expressions, law_of_steps};
 pub use limit::{MOST_CASES, MOST_UNKNOWNS, PathLimit};
+pub use walk::segments;

@@ -1,4 +1,8 @@
 //! What may end a walk.
+ghost use Rattle.std.specs.Prelude.{◌≡◌};
+ghost use Rattle.sym_paths.specs.declared.limit.PathLimit.TheVariants.{Memory};
+
+use std::alloc::AllocError;
 
 /// A case has at most this many unknowns.
 pub const MOST_UNKNOWNS: usize = 16;
@@ -17,4 +21,14 @@ pub enum PathLimit {
     ManyUnknowns,
     /// There is a 1,025th case.
     ManyPaths,
+    /// Memory ran out.
+    Memory,
+}
+
+impl From<AllocError> for PathLimit {
+    ghost from_gives = { λ _ why. why ≡ Memory };
+
+    fn from(_: AllocError) -> PathLimit {
+        PathLimit::Memory
+    }
 }
