@@ -6,6 +6,7 @@ mod refused;
 mod results;
 mod runs;
 mod sampled;
+mod steps;
 
 use crate::alone::llreve_alone;
 use re_base::{MemFiles, MemSink};

@@ -70,7 +70,7 @@ fn told(alloc: Global, graph: &Graph) -> Result<String, AllocError> {
 
 /// Texts, and the cases from each of their places but the exit.
 #[rattlefmt::skip]
-const ROWS: [(&str, &str); 18] = [
+const ROWS: [(&str, &str); 27] = [
     (
         "int f(int n){int i=0; int s=0; while(__mark(42) & (i<n)){s+=i; i++;} return s;}",
         "Mark(42) 1 0, 0 0, 0 0,\n\
@@ -104,6 +104,18 @@ const ROWS: [(&str, &str); 18] = [
         "int f(int a,int b){return a != b;}",
         "-1 1 -1 >= 0; Exit 0 0 1,\n1 -1 -1 >= 0; Exit 0 0 1,\n1 -1 0 = 0; Exit 0 0 0,\n",
     ),
+    (
+        "int f(int a,int b){return a == b;}",
+        "1 -1 0 = 0; Exit 0 0 1,\n-1 1 -1 >= 0; Exit 0 0 0,\n1 -1 -1 >= 0; Exit 0 0 0,\n",
+    ),
+    (
+        "int f(int a){return !a;}",
+        "1 0 = 0; Exit 0 1,\n-1 -1 >= 0; Exit 0 0,\n1 -1 >= 0; Exit 0 0,\n",
+    ),
+    ("int f(int a,int b){return 2*(a-b)*3 + b*0;}", "Exit 6 -6 0,\n"),
+    // What is constant is decided.
+    ("int f(int a){return 7*3 + 7/2 - 7%4 + (7<3) + (7>=7)*10 + !7 + -7 + +7;}", "Exit 0 31,\n"),
+    ("int f(int a){return (1==1 && 2!=2 || 3<=3) && 4>3 ? a : -a;}", "Exit 1 0,\n"),
     // No whole number is half of 1.
     ("int f(int a){return 2*a == 1;}", "-1 0 >= 0; Exit 0 0,\n1 -1 >= 0; Exit 0 0,\n"),
     (
@@ -117,6 +129,18 @@ const ROWS: [(&str, &str); 18] = [
     (
         "int f(int a){return a && 1 < 2 ? 1 : a;}",
         "-1 -1 >= 0; Exit 0 1,\n1 -1 >= 0; Exit 0 1,\n1 0 = 0; Exit 1 0,\n",
+    ),
+    (
+        "int f(int a,int b){return a ? b ? 1 : 2 : b ? 3 : 4;}",
+        "-1 0 -1 >= 0; 0 -1 -1 >= 0; Exit 0 0 1,\n\
+        -1 0 -1 >= 0; 0 1 -1 >= 0; Exit 0 0 1,\n\
+        -1 0 -1 >= 0; 0 1 0 = 0; Exit 0 0 2,\n\
+        1 0 -1 >= 0; 0 -1 -1 >= 0; Exit 0 0 1,\n\
+        1 0 -1 >= 0; 0 1 -1 >= 0; Exit 0 0 1,\n\
+        1 0 -1 >= 0; 0 1 0 = 0; Exit 0 0 2,\n\
+        1 0 0 = 0; 0 -1 -1 >= 0; Exit 0 0 3,\n\
+        1 0 0 = 0; 0 1 -1 >= 0; Exit 0 0 3,\n\
+        1 0 0 = 0; 0 1 0 = 0; Exit 0 0 4,\n",
     ),
     // Quotients are unknowns.
     (
@@ -151,6 +175,11 @@ const ROWS: [(&str, &str); 18] = [
     // The first limit that the walk meets.
     ("int f(int a){if(a<0) return a*a; return a*1125899906842624;}", "NonLinear\n"),
     ("int f(int a){if(a<0) return a*1125899906842624; return a*a;}", "WideForm\n"),
+    ("int f(int a){return 9223372036854775807;}", "WideForm\n"),
+    // A row is judged before it is divided by 2.
+    ("int f(int a){return 2*a + 1125899906842623 < 0;}", "WideForm\n"),
+    ("int f(int a){return 2*a + 1125899906842622 < 0;}", "-1 -562949953421312 >= 0; Exit 0 1,\n\
+        1 562949953421311 >= 0; Exit 0 0,\n"),
     (
         "int f(int a){int i=0; while(__mark(1) & (i<a/2+a/2+a/2+a/2+a/2+a/2+a/2+a/2+a/2+a/2+a/2+a/2\
         +a/2+a/2+a/2+a/2+a/2)) i++; return i;}",

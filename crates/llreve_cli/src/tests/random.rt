@@ -145,7 +145,7 @@ fn grown(
 }
 
 /// The text of the number.
-fn text_of(alloc: Global, number: u64) -> Result<String, AllocError> {
+pub(super) fn text_of(alloc: Global, number: u64) -> Result<String, AllocError> {
     let mut dice = Lcg64Xsh32::new(0, number);
     let mut text = String::from_str(alloc, SEED)?;
     for _ in 0..4 {
@@ -171,7 +171,7 @@ fn count(tally: &mut Tally, outcome: &Outcome) {
     *counted = counted.saturating_add(1);
 }
 
-const INPUTS: [[i128; 2]; 4] = [[0, 0], [1, 2], [-3, 8], [13, -6]];
+pub(super) const INPUTS: [[i128; 2]; 4] = [[0, 0], [1, 2], [-3, 8], [13, -6]];
 
 /// Counts the runs of the text, unless one comes to something else on its graph.
 fn tries(alloc: Global, text: &str, tally: &mut Tally) -> Result<bool, Fail> {
