@@ -248,7 +248,7 @@ fn agree(alloc: Global, rows: &[Row]) -> bool {
 fn elimination_agrees(rt: HostRuntime) -> Result<(), Fail> {
     let alloc = rt.alloc();
     let mut random = Random { state: 7 };
-    for _ in 0..300 {
+    for _ in 0..3_000 {
         let rows = random.rows(alloc)?;
         assert!(rt; agree(alloc, rows.as_slice()), "{rows:?}");
     }
