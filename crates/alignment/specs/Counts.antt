@@ -10,7 +10,8 @@ Counts = ℕ × ℕ × ℕ × ℕ
 -- The counts of the twelve alignments, in the order of their numbers.
 unfoldable pub table : List Counts
 table =
-    (0, 0, 1, 1) ∷ (1, 0, 1, 1) ∷ (0, 1, 1, 1) ∷ (2, 0, 1, 1) ∷ (0, 2, 1, 1) ∷ (1, 1, 1, 1) ∷ (0, 0, 2, 1) ∷ (0, 0, 1, 2)
+    (0, 0, 1, 1) ∷ (1, 0, 1, 1) ∷ (0, 1, 1, 1) ∷ (2, 0, 1, 1) ∷ (0, 2, 1, 1) ∷ (1, 1, 1, 1) ∷ (0, 0, 2, 1)
+    ∷ (0, 0, 1, 2)
     ∷ (1, 0, 2, 1) ∷ (0, 1, 1, 2) ∷ (0, 0, 3, 1) ∷ (0, 0, 1, 3) ∷ []
 
 -- The counts of the alignment with this number, from 1 on.

@@ -24,7 +24,8 @@ SomeSideMoves = (alignment : ℕ) (l r : Place) → IsAlignment alignment → ¬
 
 -- A segment from a mark to another place is the last one that a side takes, however many it may take.
 abbrev pub StopsElsewhere : Type 0
-StopsElsewhere = (f : Program) → IsProgram f → (n k : ℕ) (e : List ℤ) (next : Place) (values : List ℤ) (l' : Place) (e' : List ℤ)
+StopsElsewhere =
+    (f : Program) → IsProgram f → (n k : ℕ) (e : List ℤ) (next : Place) (values : List ℤ) (l' : Place) (e' : List ℤ)
     → IsSegment f (place.Mark k) e next values → ¬ (next ≡ place.Mark k)
     → Takes (IsSegment f) (suc n) (place.Mark k) e l' e' ↔ ((l' ≡ next) × (e' ≡ values))
 
@@ -36,19 +37,22 @@ GoesOnAtItsMark = (f : Program) → IsProgram f → (n k : ℕ) (e values : List
 
 -- The two functions have the same segments.
 abbrev pub HaveSameSegments : Program → Program → Type 0
-HaveSameSegments f g = (l : Place) (e : List ℤ) (l' : Place) (e' : List ℤ) → IsSegment f l e l' e' ↔ IsSegment g l e l' e'
+HaveSameSegments f g =
+    (l : Place) (e : List ℤ) (l' : Place) (e' : List ℤ) → IsSegment f l e l' e' ↔ IsSegment g l e l' e'
 
 -- Where each side's function has the same segments as another, the moves of the two are those of the others.
 abbrev pub SameMoves : Type 0
 SameMoves = (f g other_f other_g : Program) → HaveSameSegments f other_f → HaveSameSegments g other_g
     → (alignment : ℕ) (l r : Place) (d e : List ℤ) (l' r' : Place) (d' e' : List ℤ)
-    → Moves (IsSegment f) (IsSegment g) alignment l r d e l' r' d' e' ↔ Moves (IsSegment other_f) (IsSegment other_g) alignment l r d e l' r' d' e'
+    → Moves (IsSegment f) (IsSegment g) alignment l r d e l' r' d' e'
+    ↔ Moves (IsSegment other_f) (IsSegment other_g) alignment l r d e l' r' d' e'
 
 -- From a node, with any values, moves end at one node at most, with one list of values on each side.
 abbrev pub MovesAreDetermined : Type 0
 MovesAreDetermined = (f g : Program) → IsProgram f → IsProgram g
     → (alignment : ℕ) (l r : Place) (d e : List ℤ) (l' r' : Place) (d' e' : List ℤ) (m n : Place) (u v : List ℤ)
-    → Moves (IsSegment f) (IsSegment g) alignment l r d e l' r' d' e' → Moves (IsSegment f) (IsSegment g) alignment l r d e m n u v
+    → Moves (IsSegment f) (IsSegment g) alignment l r d e l' r' d' e'
+    → Moves (IsSegment f) (IsSegment g) alignment l r d e m n u v
     → (l' ≡ m) × (r' ≡ n) × (d' ≡ u) × (e' ≡ v)
 
 -- Moves never end at the node of the two entries.

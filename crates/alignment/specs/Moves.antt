@@ -10,8 +10,8 @@ abbrev pub GoesOnOrStops : Bool → Type 0 → Type 0 → Type 0
 GoesOnOrStops true goes_on stops = goes_on
 GoesOnOrStops false goes_on stops = stops
 
--- The side takes n segments, one after another, from the place `l` with the values `e`, and then stands at `l'` with `e'`.
--- It stops before that at the exit, and where a segment that began at a mark ends at another place.
+-- The side takes n segments, one after another, from the place `l` with the values `e`, and then stands at `l'` with
+-- `e'`. It stops before that at the exit, and where a segment that began at a mark ends at another place.
 abbrev pub Takes : (Place → List ℤ → Place → List ℤ → Type 0) → ℕ → Place → List ℤ → Place → List ℤ → Type 0
 Takes Segment zero l e l' e' = (l' ≡ l) × (e' ≡ e)
 Takes Segment (suc n) place.Exit e l' e' = (l' ≡ place.Exit) × (e' ≡ e)
@@ -19,10 +19,11 @@ Takes Segment (suc n) place.Entry e l' e' =
     (next : Place) × (values : List ℤ) × Segment place.Entry e next values × Takes Segment n next values l' e'
 Takes Segment (suc n) (place.Mark k) e l' e' =
     (next : Place) × (values : List ℤ) × Segment (place.Mark k) e next values
-    × GoesOnOrStops (is_same_place next (place.Mark k)) (Takes Segment n next values l' e') ((l' ≡ next) × (e' ≡ values))
+    × GoesOnOrStops (is_same_place next (place.Mark k)) (Takes Segment n next values l' e')
+    ((l' ≡ next) × (e' ≡ values))
 
--- At the node of the places `l` and `r`, where the values are `d` and `e`, both sides take their segments of the alignment,
--- and then stand at `l'` and `r'` with `d'` and `e'`.
+-- At the node of the places `l` and `r`, where the values are `d` and `e`, both sides take their segments of the
+-- alignment, and then stand at `l'` and `r'` with `d'` and `e'`.
 pub record Moves (First Second : Place → List ℤ → Place → List ℤ → Type 0) (alignment : ℕ) (l r : Place) (d e : List ℤ)
     (l' r' : Place) (d' e' : List ℤ) : Type 0 where
   pub first : Takes First (counts_at (counts_of alignment) l r).0 l d l' d'

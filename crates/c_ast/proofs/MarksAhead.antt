@@ -188,7 +188,8 @@ stands_ahead (Block a others) scope work mark after (inr stands) own later has =
 
 pub ahead_after : (f : Program) (mark : ℕ) (after : Work) → Follows f mark after → IsAhead f after
 ahead_after f mark after follows = record {
-  by = λ own later has. elim (stands_ahead f.body (first_variables f.params) [] mark after follows own later has) [ inl in_body ↦ in_body | inr nowhere ↦ absurd nowhere ];
+  by = λ own later has. elim
+      (stands_ahead f.body (first_variables f.params) [] mark after follows own later has) [ inl in_body ↦ in_body | inr nowhere ↦ absurd nowhere ];
 }
 
 -- where a run goes on from a place, the marks ahead are the function's

@@ -27,8 +27,10 @@ PassMarks (Block a others) = PassMarks a × PassMarks others
 formed_pass : (stmts : Statements) (n : ℕ) (scope : Scope) (in_loop : Bool) → AreFormed n scope in_loop stmts → PassMarks stmts
 formed_pass Nil n scope in_loop formed = tt
 formed_pass (Set x e others) n scope in_loop formed = formed_pass others n (x ∷ scope) in_loop formed.2
-formed_pass (If e a b others) n scope in_loop formed = (formed_pass a n scope in_loop formed.1, formed_pass b n scope in_loop formed.2, formed_pass others n scope in_loop formed.3)
-formed_pass (Loop own e body tail first others) n scope in_loop formed = (formed.4, formed_pass body n scope true formed.1, formed_pass tail n scope in_loop formed.2, formed_pass others n scope in_loop formed.5)
+formed_pass (If e a b others) n scope in_loop formed =
+    (formed_pass a n scope in_loop formed.1, formed_pass b n scope in_loop formed.2, formed_pass others n scope in_loop formed.3)
+formed_pass (Loop own e body tail first others) n scope in_loop formed =
+    (formed.4, formed_pass body n scope true formed.1, formed_pass tail n scope in_loop formed.2, formed_pass others n scope in_loop formed.5)
 formed_pass (Break others) n scope in_loop formed = formed_pass others n scope in_loop formed.1
 formed_pass (Continue others) n scope in_loop formed = formed_pass others n scope in_loop formed.1
 formed_pass (Return e others) n scope in_loop formed = formed_pass others n scope in_loop formed.1
@@ -106,7 +108,8 @@ loop_tail loop costs_behind = 1 + cost loop.step (loop_test loop costs_behind.on
 abbrev item_costs : Item → Costs → Costs
 item_costs (Run scope others) behind = record { on = cost others behind.on behind.out behind.again; out = behind.out; again = behind.again }
 item_costs (Test scope loop) behind = record { on = loop_test loop behind.on; out = behind.out; again = behind.again }
-item_costs (Cond scope loop) behind = record { on = 1 + (cost loop.body (loop_tail loop behind) behind.on (loop_tail loop behind) + behind.on); out = behind.out; again = behind.again }
+item_costs (Cond scope loop) behind =
+    record { on = 1 + (cost loop.body (loop_tail loop behind) behind.on (loop_tail loop behind) + behind.on); out = behind.out; again = behind.again }
 item_costs (Tail scope loop) behind = record { on = loop_tail loop behind; out = behind.on; again = loop_tail loop behind }
 
 abbrev costs : Work → Costs
@@ -156,9 +159,12 @@ falls_if false scope e a b others work env passes behind = (omega arith, (passes
 
 falls_enter : (first : Bool) (scope : Scope) (own : Option ℕ) (e : Expression) (body tail others : Statements) (work : Work) (env : List ℤ)
     → PassesMark own body × PassMarks body × PassMarks tail × PassMarks others → WorkPasses work
-    → Falls (costs (Run scope (Loop own e body tail first others) ∷ work)).on (Goes (entered first scope (record { mark = own; cond = e; body = body; step = tail }) (Run scope others ∷ work)) env)
-falls_enter true scope own e body tail others work env passes behind = (omega arith, (record { turn = passes.0; body = passes.1; step = passes.2 }, (passes.3, behind)))
-falls_enter false scope own e body tail others work env passes behind = (omega arith, (passes.1, (record { turn = passes.0; body = passes.1; step = passes.2 }, (passes.3, behind))))
+    → Falls (costs (Run scope (Loop own e body tail first others) ∷ work)).on
+    (Goes (entered first scope (record { mark = own; cond = e; body = body; step = tail }) (Run scope others ∷ work)) env)
+falls_enter true scope own e body tail others work env passes behind =
+    (omega arith, (record { turn = passes.0; body = passes.1; step = passes.2 }, (passes.3, behind)))
+falls_enter false scope own e body tail others work env passes behind =
+    (omega arith, (passes.1, (record { turn = passes.0; body = passes.1; step = passes.2 }, (passes.3, behind))))
 
 falls_test : (own : Option ℕ) (scope : Scope) (loop : LoopParts) (work : Work) (env : List ℤ) → loop.mark ≡ own → LoopPasses loop → WorkPasses work
     → Falls (costs (Test scope loop ∷ work)).on (tested own (Cond scope loop ∷ work) env)
@@ -222,10 +228,14 @@ stands_passes (Set x e others) scope work mark after passes behind stands = stan
 stands_passes (If e a b others) scope work mark after passes behind (inl stands) = stands_passes a scope _ mark after passes.0 (passes.2, behind) stands
 stands_passes (If e a b others) scope work mark after passes behind (inr (inl stands)) = stands_passes b scope _ mark after passes.1 (passes.2, behind) stands
 stands_passes (If e a b others) scope work mark after passes behind (inr (inr stands)) = stands_passes others scope work mark after passes.2 behind stands
-stands_passes (Loop own e body tail first others) scope work mark after passes behind (inl stands) = rw stands.1 (record { turn = passes.0; body = passes.1; step = passes.2 }, (passes.3, behind))
-stands_passes (Loop own e body tail first others) scope work mark after passes behind (inr (inl stands)) = stands_passes body scope _ mark after passes.1 (record { turn = passes.0; body = passes.1; step = passes.2 }, (passes.3, behind)) stands
-stands_passes (Loop own e body tail first others) scope work mark after passes behind (inr (inr (inl stands))) = stands_passes tail scope _ mark after passes.2 (record { turn = passes.0; body = passes.1; step = passes.2 }, (passes.3, behind)) stands
-stands_passes (Loop own e body tail first others) scope work mark after passes behind (inr (inr (inr stands))) = stands_passes others scope work mark after passes.3 behind stands
+stands_passes (Loop own e body tail first others) scope work mark after passes behind (inl stands) =
+    rw stands.1 (record { turn = passes.0; body = passes.1; step = passes.2 }, (passes.3, behind))
+stands_passes (Loop own e body tail first others) scope work mark after passes behind (inr (inl stands)) =
+    stands_passes body scope _ mark after passes.1 (record { turn = passes.0; body = passes.1; step = passes.2 }, (passes.3, behind)) stands
+stands_passes (Loop own e body tail first others) scope work mark after passes behind (inr (inr (inl stands))) =
+    stands_passes tail scope _ mark after passes.2 (record { turn = passes.0; body = passes.1; step = passes.2 }, (passes.3, behind)) stands
+stands_passes (Loop own e body tail first others) scope work mark after passes behind (inr (inr (inr stands))) =
+    stands_passes others scope work mark after passes.3 behind stands
 stands_passes (Break others) scope work mark after passes behind stands = stands_passes others scope work mark after passes behind stands
 stands_passes (Continue others) scope work mark after passes behind stands = stands_passes others scope work mark after passes behind stands
 stands_passes (Return e others) scope work mark after passes behind stands = stands_passes others scope work mark after passes behind stands
@@ -236,7 +246,8 @@ stands_passes (Block a others) scope work mark after passes behind (inr stands) 
 
 from_passes : (f : Program) → IsProgram f → (l : Place) (work : Work) → GoesOnFrom f l work → WorkPasses work
 from_passes f is place.Entry work from = rw from (formed_pass f.body f.vars (first_variables f.params) false is.formed, tt)
-from_passes f is (place.Mark mark) work from = stands_passes f.body (first_variables f.params) [] mark work (formed_pass f.body f.vars (first_variables f.params) false is.formed) tt from
+from_passes f is (place.Mark mark) work from =
+    stands_passes f.body (first_variables f.params) [] mark work (formed_pass f.body f.vars (first_variables f.params) false is.formed) tt from
 from_passes f is place.Exit work from = absurd from
 
 pub next_place_exists : NextPlaceExists

@@ -204,7 +204,8 @@ module _ (f : Program) where
         let again = spread (scope_of w) f.vars values in
         let there : IsReady f (scope_of w) w again b = record {
           nested = ready.nested;
-          agree = agree_both f.vars (scope_of w) again a b (agree_back f.vars (scope_of w) a again (agree_spread f.vars (scope_of w) a ready.agree.left)) ready.agree;
+          agree = agree_both f.vars (scope_of w) again a b
+              (agree_back f.vars (scope_of w) a again (agree_spread f.vars (scope_of w) a ready.agree.left)) ready.agree;
           ahead = ready.ahead;
         } in
         joins next.segment.steps w (scope_of w) again b next.met there met next.leads

@@ -72,7 +72,8 @@ eval-append values others (Num z) below = refl
 eval-append values others (Var x) below = get_or-append values others (pos 0) x below
 eval-append values others (Un op e) below = rw (eval-append values others e below) refl
 eval-append values others (Bin op e f) below = rw (eval-append values others e below.0, eval-append values others f below.1) refl
-eval-append values others (Cond c e f) below = rw (eval-append values others c below.0, eval-append values others e below.1, eval-append values others f below.2) refl
+eval-append values others (Cond c e f) below =
+    rw (eval-append values others c below.0, eval-append values others e below.1, eval-append values others f below.2) refl
 
 -- ---- one step
 

@@ -53,7 +53,8 @@ breaks = record {
 -- `break` leaves the inner loop alone
 breaks_one : outcome_within 40 breaks (pos 1 ∷ []) ≡ Returned (record {
   events =
-      record { mark = 1; values = pos 1 ∷ pos 0 ∷ [] } ∷ record { mark = 2; values = pos 1 ∷ pos 0 ∷ [] } ∷ record { mark = 1; values = pos 1 ∷ pos 1 ∷ [] } ∷ [];
+      record { mark = 1; values = pos 1 ∷ pos 0 ∷ [] } ∷ record { mark = 2; values = pos 1 ∷ pos 0 ∷ [] } ∷ record { mark = 1; values = pos 1 ∷ pos 1 ∷ [] }
+      ∷ [];
   result = pos 1;
 })
 unfolding breaks

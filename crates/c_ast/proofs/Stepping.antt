@@ -43,7 +43,8 @@ module _ (f : Program) where
   test_alike : (own : Option ℕ) (scope : Scope) (loop : LoopParts) (work : Work) (a b : List ℤ) → loop.mark ≡ own
       → IsReady f scope (Test scope loop ∷ work) a b
       → AreAlike f (tested own (Cond scope loop ∷ work) a) (tested own (Cond scope loop ∷ work) b)
-  test_alike None scope loop work a b e is = (refl, scope, record { nested = is.nested; agree = is.agree; ahead = ahead_kept f _ _ (keeps_tested scope loop work) is.ahead })
+  test_alike None scope loop work a b e is =
+      (refl, scope, record { nested = is.nested; agree = is.agree; ahead = ahead_kept f _ _ (keeps_tested scope loop work) is.ahead })
   test_alike (Some mark) scope loop work a b e is = (
     refl,
     refl,

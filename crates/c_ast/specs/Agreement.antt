@@ -20,7 +20,8 @@ pub record Within (inner outer : Scope) : Type 0 where
 abbrev pub ReadsInScope : Scope → Statements → Type 0
 ReadsInScope scope Nil = Unit {0}
 ReadsInScope scope (Set x e others) = IsOver scope e × ReadsInScope (x ∷ scope) others
-ReadsInScope scope (If e a b others) = IsOver scope e × ReadsInScope scope a × ReadsInScope scope b × ReadsInScope scope others
+ReadsInScope scope (If e a b others) =
+    IsOver scope e × ReadsInScope scope a × ReadsInScope scope b × ReadsInScope scope others
 ReadsInScope scope (Loop mark cond body step test_first others) =
     IsOver scope cond × ReadsInScope scope body × ReadsInScope scope step × ReadsInScope scope others
 ReadsInScope scope (Break others) = ReadsInScope scope others
@@ -54,7 +55,8 @@ pub record IsReady (f : Program) (scope : Scope) (work : Work) (a b : List ℤ) 
 -- Both steps go on with one work, pass one mark of the function, or end with one result.
 abbrev pub AreAlike : Program → Next → Next → Type 0
 AreAlike f (Goes work a) (Goes other b) = (work ≡ other) × (scope : Scope) × IsReady f scope work a b
-AreAlike f (Passes mark work a) (Passes own other b) = (mark ≡ own) × (work ≡ other) × IsReady f (scope_of work) work a b × Follows f mark work
+AreAlike f (Passes mark work a) (Passes own other b) =
+    (mark ≡ own) × (work ≡ other) × IsReady f (scope_of work) work a b × Follows f mark work
 AreAlike f (Ends u) (Ends v) = u ≡ v
 AreAlike f (Goes work a) (Passes own other b) = ⊥
 AreAlike f (Goes work a) (Ends v) = ⊥
@@ -65,4 +67,5 @@ AreAlike f (Ends u) (Passes own other b) = ⊥
 
 -- One step from two environments that agree on the variables in scope does the same in both.
 abbrev pub StepsAreAlike : Type 0
-StepsAreAlike = (f : Program) (work : Work) (scope : Scope) (a b : List ℤ) → IsReady f scope work a b → AreAlike f (step work a) (step work b)
+StepsAreAlike = (f : Program) (work : Work) (scope : Scope) (a b : List ℤ) → IsReady f scope work a b
+    → AreAlike f (step work a) (step work b)

@@ -8,7 +8,8 @@ use Rattle.c_ast.specs.Segment.{StandsIn, Follows, GoesOnFrom}
 -- The mark stands in the loop, which is followed by this work; right after it is passed the work is the last one.
 abbrev pub LoopHas : Scope → LoopParts → Work → ℕ → Work → Type 0
 LoopHas scope loop work mark after =
-    (loop.mark ≡ Some mark) × (after ≡ Cond scope loop ∷ work) ⊎ StandsIn scope loop.body (Tail scope loop ∷ work) mark after
+    (loop.mark ≡ Some mark) × (after ≡ Cond scope loop ∷ work)
+    ⊎ StandsIn scope loop.body (Tail scope loop ∷ work) mark after
     ⊎ StandsIn scope loop.step (Test scope loop ∷ work) mark after
 
 -- The same of an item.

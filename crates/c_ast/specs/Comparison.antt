@@ -18,7 +18,8 @@ pub record Comparison : Type 0 where
 
 -- The comparison of these parts.
 abbrev pub comparison : Function → Function → Bounds → Option Expr → Comparison
-comparison first second settings condition = record { first = first; second = second; settings = settings; condition = condition }
+comparison first second settings condition =
+    record { first = first; second = second; settings = settings; condition = condition }
 
 -- The functions have as many parameters.
 abbrev pub HasOneArity : Comparison → Type 0
@@ -32,8 +33,8 @@ condition_of c = given_condition c.condition
 abbrev pub IsCondition : Function → Expr → Type 0
 IsCondition f condition = IsOver (first_variables f.params) (expression_of condition)
 
--- The parts make a comparison: both functions are well formed and have as many parameters, and the condition is one over
--- these.
+-- The parts make a comparison: both functions are well formed and have as many parameters, and the condition is one
+-- over these.
 pub record IsComparison (c : Comparison) : Type 0 where
   pub first : IsFunction c.first
   pub second : IsFunction c.second

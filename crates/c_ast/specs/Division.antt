@@ -3,15 +3,15 @@ use Rattle.std.specs.Prelude.{◌≡◌, ◌↔◌, ℕ, ◌/◌, ◌<◌, ◌�
 use Rattle.c_ast.specs.declared.expr.BinOp.TheVariants.{Div, Rem}
 use Rattle.c_ast.specs.Value.{binary_value}
 
--- The quotient of a value and a divisor: in size it is that of the value over the divisor, rounded down. It is at least 0
--- where the value is, and at most 0 where that is.
+-- The quotient of a value and a divisor: in size it is that of the value over the divisor, rounded down. It is at least
+-- 0 where the value is, and at most 0 where that is.
 pub record IsQuotient (value : ℤ) (divisor : ℕ) (quotient : ℤ) : Type 0 where
   pub size : unsigned_abs quotient ≡ unsigned_abs value / divisor
   pub not_negative : pos 0 ≤ℤ value → pos 0 ≤ℤ quotient
   pub not_positive : value ≤ℤ pos 0 → quotient ≤ℤ pos 0
 
--- The quotient times the divisor, and what is left, make the value. What is left is smaller than the divisor, and on the
--- value's side of 0.
+-- The quotient times the divisor, and what is left, make the value. What is left is smaller than the divisor, and on
+-- the value's side of 0.
 pub record IsDivided (value : ℤ) (divisor : ℕ) (quotient remainder : ℤ) : Type 0 where
   pub whole : (quotient *ℤ pos divisor) +ℤ remainder ≡ value
   pub small : unsigned_abs remainder < divisor

@@ -25,7 +25,8 @@ MapOfValues A B = (g : A → B) (scope : Scope) (env : List A) → map g (values
 
 -- The values of the variables in scope are those of the variables that are listed.
 abbrev pub ValuesAreListed : Type 0
-ValuesAreListed = (scope : Scope) (env : List ℤ) → map (λ x. slice_index_or env x (pos 0)) (variables_in scope (length env)) ≡ values_in scope env
+ValuesAreListed = (scope : Scope) (env : List ℤ)
+    → map (λ x. slice_index_or env x (pos 0)) (variables_in scope (length env)) ≡ values_in scope env
 
 -- Each variable that is listed is among the first n.
 abbrev pub ListedAreBelow : Type 0
@@ -50,7 +51,8 @@ OverCanEvaluate = (e : Expression) (n : ℕ) (scope : Scope) → IsBelow n scope
 
 -- So can one that a variable takes the value of.
 abbrev pub SetCanEvaluate : Type 0
-SetCanEvaluate = (known : Bool) (e : Expression) (n : ℕ) (scope : Scope) → IsBelow n scope → IsSet known scope e → CanEvaluate n e
+SetCanEvaluate =
+    (known : Bool) (e : Expression) (n : ℕ) (scope : Scope) → IsBelow n scope → IsSet known scope e → CanEvaluate n e
 
 -- The environment of what comes of a step has n values.
 abbrev pub HasLength : ℕ → Next → Type 0

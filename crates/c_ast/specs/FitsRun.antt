@@ -16,9 +16,11 @@ abbrev pub parts_fit_run : Expression → List ℤ → Bool
 parts_fit_run (Num z) environment = fits_run (eval (Num z) environment)
 parts_fit_run (Var x) environment = fits_run (eval (Var x) environment)
 parts_fit_run (Un op e) environment = parts_fit_run e environment && fits_run (eval (Un op e) environment)
-parts_fit_run (Bin op e f) environment = parts_fit_run e environment && (parts_fit_run f environment && fits_run (eval (Bin op e f) environment))
+parts_fit_run (Bin op e f) environment =
+    parts_fit_run e environment && (parts_fit_run f environment && fits_run (eval (Bin op e f) environment))
 parts_fit_run (Cond c e f) environment =
-    parts_fit_run c environment && (parts_fit_run e environment && (parts_fit_run f environment && fits_run (eval (Cond c e f) environment)))
+    parts_fit_run c environment
+    && (parts_fit_run e environment && (parts_fit_run f environment && fits_run (eval (Cond c e f) environment)))
 
 -- The value, where the test holds.
 abbrev pub only_if : Bool → ℤ → Option ℤ

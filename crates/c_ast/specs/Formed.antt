@@ -4,8 +4,8 @@ use Rattle.c_ast.specs.Tree.{Expression, Num, Var, Un, Bin, Cond, Statements, Ni
 use Rattle.c_ast.specs.Value.{HasDivisor}
 use Rattle.c_ast.specs.Step.{Scope, is_in, first_variables}
 
--- The expression reads variables in scope alone, each of its constants is at least 0, and each of its divisors is a constant
--- of at least 1.
+-- The expression reads variables in scope alone, each of its constants is at least 0, and each of its divisors is a
+-- constant of at least 1.
 abbrev pub IsOver : Scope → Expression → Type 0
 IsOver scope (Num z) = pos 0 ≤ℤ z
 IsOver scope (Var x) = is_in scope x ≡ true
@@ -39,10 +39,13 @@ HoldsSets _ = ⊥
 -- declaration is in scope to the end of its list; `break` and `continue` stand in loops; a loop's step sets variables.
 abbrev pub AreFormed : ℕ → Scope → Bool → Statements → Type 0
 AreFormed n scope in_loop Nil = Unit {0}
-AreFormed n scope in_loop (Set x e others) = (x < n) × IsSet (is_in scope x) scope e × AreFormed n (x ∷ scope) in_loop others
-AreFormed n scope in_loop (If e a b others) = IsOver scope e × AreFormed n scope in_loop a × AreFormed n scope in_loop b × AreFormed n scope in_loop others
+AreFormed n scope in_loop (Set x e others) =
+    (x < n) × IsSet (is_in scope x) scope e × AreFormed n (x ∷ scope) in_loop others
+AreFormed n scope in_loop (If e a b others) =
+    IsOver scope e × AreFormed n scope in_loop a × AreFormed n scope in_loop b × AreFormed n scope in_loop others
 AreFormed n scope in_loop (Loop mark cond body step test_first others) =
-    IsOver scope cond × AreFormed n scope true body × AreFormed n scope in_loop step × HoldsSets step × PassesMark mark body × AreFormed n scope in_loop others
+    IsOver scope cond × AreFormed n scope true body × AreFormed n scope in_loop step × HoldsSets step
+    × PassesMark mark body × AreFormed n scope in_loop others
 AreFormed n scope in_loop (Break others) = (in_loop ≡ true) × AreFormed n scope in_loop others
 AreFormed n scope in_loop (Continue others) = (in_loop ≡ true) × AreFormed n scope in_loop others
 AreFormed n scope in_loop (Return e others) = IsOver scope e × AreFormed n scope in_loop others
@@ -59,7 +62,8 @@ abbrev pub declarations : ℕ → Scope → Statements → ℕ
 declarations x scope Nil = 0
 declarations x scope (Set y e others) = one_if (y == x && not (is_in scope y)) + declarations x (y ∷ scope) others
 declarations x scope (If e a b others) = declarations x scope a + (declarations x scope b + declarations x scope others)
-declarations x scope (Loop mark cond body step test_first others) = declarations x scope body + (declarations x scope step + declarations x scope others)
+declarations x scope (Loop mark cond body step test_first others) =
+    declarations x scope body + (declarations x scope step + declarations x scope others)
 declarations x scope (Break others) = declarations x scope others
 declarations x scope (Continue others) = declarations x scope others
 declarations x scope (Return e others) = declarations x scope others
@@ -76,7 +80,8 @@ abbrev pub marks : ℕ → Statements → ℕ
 marks mark Nil = 0
 marks mark (Set x e others) = marks mark others
 marks mark (If e a b others) = marks mark a + (marks mark b + marks mark others)
-marks mark (Loop own cond body step test_first others) = one_if (is_mark own mark) + (marks mark body + (marks mark step + marks mark others))
+marks mark (Loop own cond body step test_first others) =
+    one_if (is_mark own mark) + (marks mark body + (marks mark step + marks mark others))
 marks mark (Break others) = marks mark others
 marks mark (Continue others) = marks mark others
 marks mark (Return e others) = marks mark others

@@ -9,7 +9,8 @@ use Rattle.c_ast.specs.declared.stmt.Stmt.TheVariants.{Set, If, Loop, Break, Con
 
 -- Each statement puts its own constructor in front of the rest of its list.
 pub record Fronts : Type 0 where
-  pub set : (x : ℕ) (e : Expr) (others : Statements) → put_in_front (Set x e) others ≡ tree.Set x (expression_of e) others
+  pub set : (x : ℕ) (e : Expr) (others : Statements)
+      → put_in_front (Set x e) others ≡ tree.Set x (expression_of e) others
   pub if_ : (e : Expr) (a b : List Stmt) (others : Statements)
       → put_in_front (If e a b) others ≡ tree.If (expression_of e) (statements_of a) (statements_of b) others
   pub loop : (mark : Option ℕ) (cond : Expr) (body step : List Stmt) (test_first : Bool) (others : Statements)
@@ -19,7 +20,8 @@ pub record Fronts : Type 0 where
   pub continue_ : (others : Statements) → put_in_front Continue others ≡ tree.Continue others
   pub return_ : (e : Expr) (others : Statements) → put_in_front (Return e) others ≡ tree.Return (expression_of e) others
   pub mark : (mark : ℕ) (others : Statements) → put_in_front (Mark mark) others ≡ tree.Mark mark others
-  pub block : (a : List Stmt) (others : Statements) → put_in_front (Block a) others ≡ tree.Block (statements_of a) others
+  pub block : (a : List Stmt) (others : Statements)
+      → put_in_front (Block a) others ≡ tree.Block (statements_of a) others
 
 -- Statements with one tree are equal.
 abbrev pub OneTree : Type 0

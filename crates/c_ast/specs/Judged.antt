@@ -9,10 +9,13 @@ use Rattle.c_ast.specs.Outcome.{at_event, returned}
 
 -- The events of at most `limit` marks; at the next one the run is cut off.
 abbrev pub at_most : ℕ → ℕ → ℕ → List ℤ → Option Outcome → Option Outcome
-at_most limit marks mark values later = if nat_lt marks limit then at_event marks mark values later else Some outcome.CutOff
+at_most limit marks mark values later =
+    if nat_lt marks limit then at_event marks mark values later else Some outcome.CutOff
 
 -- Where the parameters have these values and all other variables are 0, some number of steps has this outcome: the
--- trace, `CutOff` at mark number `limit + 1`, or `Wide` at the first value of 2^100 or more in size, whichever comes first.
+-- trace, `CutOff` at mark number `limit + 1`, or `Wide` at the first value of 2^100 or more in size, whichever comes
+-- first.
 pub record IsJudged (f : Program) (inputs : List ℤ) (limit : ℕ) (o : Outcome) : Type 0 where
   pub steps : ℕ
-  pub is : seen evaluates_fitting (Some outcome.Wide) (at_most limit) returned steps 0 (start f) (spread (first_variables f.params) f.vars inputs) ≡ Some o
+  pub is : seen evaluates_fitting (Some outcome.Wide) (at_most limit) returned steps 0 (start f)
+      (spread (first_variables f.params) f.vars inputs) ≡ Some o

@@ -25,7 +25,8 @@ HasOneTrace = (f : Program) (inputs : List ℤ) (s t : Trace) → IsTrace f inpu
 
 -- What is returned is the result of a trace.
 abbrev pub TraceReturns : Type 0
-TraceReturns = (f : Program) (inputs : List ℤ) (value : ℤ) → Returns f inputs value ↔ ((trace : Trace) × IsTrace f inputs trace × (trace.result ≡ value))
+TraceReturns = (f : Program) (inputs : List ℤ) (value : ℤ)
+    → Returns f inputs value ↔ ((trace : Trace) × IsTrace f inputs trace × (trace.result ≡ value))
 
 -- Two works with which a run goes on from a place are equal.
 abbrev pub WorkIsDetermined : Type 0
@@ -33,25 +34,30 @@ WorkIsDetermined = (f : Program) → IsProgram f → (l : Place) (v w : Work) �
 
 -- From a place with any values at most one place is met next, with one list of values.
 abbrev pub NextPlaceIsDetermined : Type 0
-NextPlaceIsDetermined = (f : Program) → IsProgram f → (l : Place) (e : List ℤ) (a b : Place) (c d : List ℤ) → IsSegment f l e a c → IsSegment f l e b d
+NextPlaceIsDetermined = (f : Program) → IsProgram f → (l : Place) (e : List ℤ) (a b : Place) (c d : List ℤ)
+    → IsSegment f l e a c → IsSegment f l e b d
     → (a ≡ b) × (c ≡ d)
 
 -- From the entry and from each mark, with any values, a place is met next: every turn of a loop passes a mark.
 abbrev pub NextPlaceExists : Type 0
-NextPlaceExists = (f : Program) → IsProgram f → (l : Place) (e : List ℤ) (work : Work) → GoesOnFrom f l work → (l' : Place) × (e' : List ℤ)
+NextPlaceExists = (f : Program) → IsProgram f → (l : Place) (e : List ℤ) (work : Work) → GoesOnFrom f l work
+    → (l' : Place) × (e' : List ℤ)
     × IsSegment f l e l' e'
 
 -- The values with which a place is met are as many as the variables in scope there.
 abbrev pub MeetsFittingValues : Type 0
-MeetsFittingValues = (f : Program) (l : Place) (e : List ℤ) (l' : Place) (e' : List ℤ) → IsSegment f l e l' e' → FitsPlace f l' e'
+MeetsFittingValues =
+    (f : Program) (l : Place) (e : List ℤ) (l' : Place) (e' : List ℤ) → IsSegment f l e l' e' → FitsPlace f l' e'
 
 -- The values that fit one place are equally many.
 abbrev pub FittingValuesAreAsMany : Type 0
-FittingValuesAreAsMany = (f : Program) → IsProgram f → (l : Place) (d e : List ℤ) → FitsPlace f l d → FitsPlace f l e → length d ≡ length e
+FittingValuesAreAsMany =
+    (f : Program) → IsProgram f → (l : Place) (d e : List ℤ) → FitsPlace f l d → FitsPlace f l e → length d ≡ length e
 
 -- No segment ends at the entry.
 abbrev pub EntryIsNotMet : Type 0
-EntryIsNotMet = (f : Program) (l : Place) (e : List ℤ) (l' : Place) (e' : List ℤ) → IsSegment f l e l' e' → l' ≢ place.Entry
+EntryIsNotMet =
+    (f : Program) (l : Place) (e : List ℤ) (l' : Place) (e' : List ℤ) → IsSegment f l e l' e' → l' ≢ place.Entry
 
 -- No segment begins at the exit.
 abbrev pub ExitIsLast : Type 0
@@ -64,27 +70,33 @@ pub record FitsEvent (f : Program) (event : Event) : Type 0 where
 
 -- Each mark that a trace passes is one of the function's, and its values fit it.
 abbrev pub TraceFits : Type 0
-TraceFits = (f : Program) → IsProgram f → (inputs : List ℤ) (trace : Trace) → IsTrace f inputs trace → All (FitsEvent f) trace.events
+TraceFits = (f : Program) → IsProgram f → (inputs : List ℤ) (trace : Trace) → IsTrace f inputs trace
+    → All (FitsEvent f) trace.events
 
 -- What comes of some number of steps, where it is a trace, is the function's trace.
 abbrev pub OutcomeIsTrace : Type 0
-OutcomeIsTrace = (f : Program) (inputs : List ℤ) (steps : ℕ) (trace : Trace) → outcome_within steps f inputs ≡ outcome.Returned trace → IsTrace f inputs trace
+OutcomeIsTrace = (f : Program) (inputs : List ℤ) (steps : ℕ) (trace : Trace)
+    → outcome_within steps f inputs ≡ outcome.Returned trace → IsTrace f inputs trace
 
 -- A run with a limit of marks has at most one outcome.
 abbrev pub IsJudgedOnce : Type 0
-IsJudgedOnce = (f : Program) (inputs : List ℤ) (limit : ℕ) (o p : Outcome) → IsJudged f inputs limit o → IsJudged f inputs limit p → o ≡ p
+IsJudgedOnce = (f : Program) (inputs : List ℤ) (limit : ℕ) (o p : Outcome) → IsJudged f inputs limit o
+    → IsJudged f inputs limit p → o ≡ p
 
 -- A trace that comes of a run with a limit is the function's, and passes at most so many marks.
 abbrev pub JudgedIsTrace : Type 0
-JudgedIsTrace = (f : Program) (inputs : List ℤ) (limit : ℕ) (trace : Trace) → IsJudged f inputs limit (outcome.Returned trace) → IsTrace f inputs trace
+JudgedIsTrace = (f : Program) (inputs : List ℤ) (limit : ℕ) (trace : Trace)
+    → IsJudged f inputs limit (outcome.Returned trace) → IsTrace f inputs trace
     × (length trace.events ≤ limit)
 
 -- Where a run is cut off, a trace of the function passes more marks than the limit.
 abbrev pub CutOffPassesMore : Type 0
-CutOffPassesMore = (f : Program) (inputs : List ℤ) (limit : ℕ) (trace : Trace) → IsJudged f inputs limit outcome.CutOff → IsTrace f inputs trace
+CutOffPassesMore = (f : Program) (inputs : List ℤ) (limit : ℕ) (trace : Trace) → IsJudged f inputs limit outcome.CutOff
+    → IsTrace f inputs trace
     → limit < length trace.events
 
 -- Where a trace of the function passes at most so many marks, the run returns it or meets a wide value.
 abbrev pub TraceIsJudged : Type 0
-TraceIsJudged = (f : Program) (inputs : List ℤ) (limit : ℕ) (trace : Trace) → IsTrace f inputs trace → length trace.events ≤ limit
+TraceIsJudged =
+    (f : Program) (inputs : List ℤ) (limit : ℕ) (trace : Trace) → IsTrace f inputs trace → length trace.events ≤ limit
     → IsJudged f inputs limit (outcome.Returned trace) ⊎ IsJudged f inputs limit outcome.Wide

@@ -11,7 +11,8 @@ use Rattle.c_ast.specs.FitsRun.{evaluates_fitting}
 -- An event in front of what comes of the rest of the run.
 abbrev pub with_first : Event → Option Outcome → Option Outcome
 with_first event None = None
-with_first event (Some (outcome.Returned trace)) = Some (outcome.Returned (record { events = event ∷ trace.events; result = trace.result }))
+with_first event (Some (outcome.Returned trace)) =
+    Some (outcome.Returned (record { events = event ∷ trace.events; result = trace.result }))
 with_first event (Some outcome.Wide) = Some outcome.Wide
 with_first event (Some outcome.CutOff) = Some outcome.CutOff
 
@@ -34,4 +35,5 @@ or_cut_off (Some o) = o
 
 -- What comes of at most this many steps, where the parameters have these values and all other variables are 0.
 abbrev pub outcome_within : ℕ → Program → List ℤ → Outcome
-outcome_within steps f inputs = or_cut_off (interpreted steps 0 (start f) (spread (first_variables f.params) f.vars inputs))
+outcome_within steps f inputs =
+    or_cut_off (interpreted steps 0 (start f) (spread (first_variables f.params) f.vars inputs))

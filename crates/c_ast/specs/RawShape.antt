@@ -40,7 +40,8 @@ AreShaped (IfElse c a b others) = HasNaturalConstants c × AreShaped a × AreSha
 AreShaped (While c body others) = HasNaturalConstants c.cond × AreShaped body × AreShaped others
 AreShaped (Do body c others) = AreShaped body × HasNaturalConstants c.cond × AreShaped others
 AreShaped (For start c step body others) =
-    IsForStart start × AreShaped start × IsShapedCondition c × IsForStep step × AreShaped step × AreShaped body × AreShaped others
+    IsForStart start × AreShaped start × IsShapedCondition c × IsForStep step × AreShaped step × AreShaped body
+    × AreShaped others
 AreShaped (Break line others) = AreShaped others
 AreShaped (Continue line others) = AreShaped others
 AreShaped (Return e others) = HasNaturalConstants e × AreShaped others

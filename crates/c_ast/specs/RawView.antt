@@ -28,7 +28,8 @@ raw_condition_of cond = record { mark = cond.mark; cond = raw_expression_of cond
 
 -- The tree of a declarator.
 abbrev pub raw_declared_of : RawDeclarator → RawDeclared
-raw_declared_of declarator = record { var = declarator.var; initialiser = option_map raw_expression_of declarator.initialiser }
+raw_declared_of declarator =
+    record { var = declarator.var; initialiser = option_map raw_expression_of declarator.initialiser }
 
 -- Statements are seen as what each puts in front of the rest of its list.
 abbrev pub raw_joined : List (RawStatements → RawStatements) → RawStatements
@@ -45,7 +46,8 @@ raw_optional None = tree.Nil
 raw_optional (Some first) = first tree.Nil
 
 -- An `if` in front of the rest of its list, with the branch behind `else` where there is one.
-abbrev pub raw_branches : RawExpression → RawStatements → Option (RawStatements → RawStatements) → RawStatements → RawStatements
+abbrev pub raw_branches : RawExpression → RawStatements → Option (RawStatements → RawStatements) → RawStatements
+    → RawStatements
 raw_branches cond first None others = tree.If cond first others
 raw_branches cond first (Some second) others = tree.IfElse cond first (raw_one second) others
 
@@ -53,10 +55,12 @@ raw_branches cond first (Some second) others = tree.IfElse cond first (raw_one s
 abbrev pub raw_statement_level : RawStmt-F (RawStatements → RawStatements) → RawStatements → RawStatements
 raw_statement_level (RawStmt-F.Declare declarators) others = tree.Declare (map raw_declared_of declarators) others
 raw_statement_level (RawStmt-F.Assign name line e) others = tree.Assign name line (raw_expression_of e) others
-raw_statement_level (RawStmt-F.If cond first second) others = raw_branches (raw_expression_of cond) (raw_one first) second others
+raw_statement_level (RawStmt-F.If cond first second) others =
+    raw_branches (raw_expression_of cond) (raw_one first) second others
 raw_statement_level (RawStmt-F.While cond body) others = tree.While (raw_condition_of cond) (raw_one body) others
 raw_statement_level (RawStmt-F.Do body cond) others = tree.Do (raw_one body) (raw_condition_of cond) others
-raw_statement_level (RawStmt-F.For init cond step body) others = tree.For (raw_optional init) (option_map raw_condition_of cond) (raw_optional step)
+raw_statement_level (RawStmt-F.For init cond step body) others =
+    tree.For (raw_optional init) (option_map raw_condition_of cond) (raw_optional step)
     (raw_one body) others
 raw_statement_level (RawStmt-F.Break line) others = tree.Break line others
 raw_statement_level (RawStmt-F.Continue line) others = tree.Continue line others
@@ -75,4 +79,5 @@ raw_statements_of stmts = raw_joined (map raw_put_in_front stmts)
 
 -- The tree of a function.
 abbrev pub raw_function_of : RawFunc → RawFunction
-raw_function_of func = record { name = func.name; line = func.line; params = func.params; body = raw_statements_of func.body }
+raw_function_of func =
+    record { name = func.name; line = func.line; params = func.params; body = raw_statements_of func.body }

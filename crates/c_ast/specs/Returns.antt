@@ -28,4 +28,5 @@ pub record Returns (f : Program) (inputs : List ℤ) (value : ℤ) : Type 0 wher
 -- No inputs that meet the condition, as many as there are parameters, make the two functions return differently.
 abbrev pub NeverDiffer : Program → Program → Expression → Type 0
 NeverDiffer f g condition =
-    (inputs : List ℤ) (v w : ℤ) → length inputs ≡ f.params → Meets condition inputs → Returns f inputs v → Returns g inputs w → v ≡ w
+    (inputs : List ℤ) (v w : ℤ) → length inputs ≡ f.params → Meets condition inputs → Returns f inputs v
+    → Returns g inputs w → v ≡ w

@@ -42,14 +42,16 @@ abbrev pub none_before : Bool → Option Scope
 none_before true = Some []
 none_before false = None
 
--- The variables that are set in the lists around the mark, in front of it, the newest first; none where it does not stand
--- in the statements.
+-- The variables that are set in the lists around the mark, in front of it, the newest first; none where it does not
+-- stand in the statements.
 abbrev pub set_before : ℕ → Statements → Option Scope
 set_before mark Nil = None
 set_before mark (Set x e others) = with_set x (set_before mark others)
-set_before mark (If e a b others) = option_or (set_before mark a) (option_or (set_before mark b) (set_before mark others))
+set_before mark (If e a b others) =
+    option_or (set_before mark a) (option_or (set_before mark b) (set_before mark others))
 set_before mark (Loop own cond body step test_first others) =
-    option_or (none_before (is_mark own mark)) (option_or (set_before mark body) (option_or (set_before mark step) (set_before mark others)))
+    option_or (none_before (is_mark own mark))
+    (option_or (set_before mark body) (option_or (set_before mark step) (set_before mark others)))
 set_before mark (Break others) = set_before mark others
 set_before mark (Continue others) = set_before mark others
 set_before mark (Return e others) = set_before mark others

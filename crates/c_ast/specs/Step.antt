@@ -85,15 +85,17 @@ abbrev pub turned : Bool → Scope → LoopParts → Work → Work
 turned true scope loop work = Run scope loop.body ∷ Tail scope loop ∷ work
 turned false scope loop work = work
 
--- The next step of a run: one case an item, and one a statement at the front of a list (6.8). Where no work is left, the
--- function falls off its end and returns 0.
+-- The next step of a run: one case an item, and one a statement at the front of a list (6.8). Where no work is left,
+-- the function falls off its end and returns 0.
 abbrev pub step : Work → List ℤ → Next
 step [] env = Ends (pos 0)
 step (Run scope Nil ∷ work) env = Goes work env
 step (Run scope (Set x e others) ∷ work) env = Goes (Run (x ∷ scope) others ∷ work) (slice_set env x (eval e env))
-step (Run scope (If e a b others) ∷ work) env = Goes (Run scope (if is_nonzero (eval e env) then a else b) ∷ Run scope others ∷ work) env
+step (Run scope (If e a b others) ∷ work) env =
+    Goes (Run scope (if is_nonzero (eval e env) then a else b) ∷ Run scope others ∷ work) env
 step (Run scope (Loop mark cond body tail test_first others) ∷ work) env =
-    Goes (entered test_first scope (record { mark = mark; cond = cond; body = body; step = tail }) (Run scope others ∷ work)) env
+    Goes (entered test_first scope (record { mark = mark; cond = cond; body = body; step = tail })
+    (Run scope others ∷ work)) env
 step (Run scope (Break others) ∷ work) env = Goes (past_tail work) env
 step (Run scope (Continue others) ∷ work) env = Goes (to_tail work) env
 step (Run scope (Return e others) ∷ work) env = Ends (eval e env)
@@ -130,7 +132,8 @@ abbrev pub with_value : {A : Type 0} → Bool → A → List A → List A
 with_value true value values = value ∷ values
 with_value false value values = values
 
--- Those of the environment's values whose variables are in scope, by rising number. The first value is that of variable i.
+-- Those of the environment's values whose variables are in scope, by rising number. The first value is that of variable
+-- i.
 abbrev pub values_from : {A : Type 0} → Scope → ℕ → List A → List A
 values_from scope i [] = []
 values_from scope i (value ∷ env) = with_value (is_in scope i) value (values_from scope (suc i) env)
@@ -139,7 +142,8 @@ values_from scope i (value ∷ env) = with_value (is_in scope i) value (values_f
 abbrev pub values_in : {A : Type 0} → Scope → List A → List A
 values_in scope env = values_from scope 0 env
 
--- The next value where the variable is in scope, and the first argument where it is not or no value is left; then the others.
+-- The next value where the variable is in scope, and the first argument where it is not or no value is left; then the
+-- others.
 abbrev pub spread_one : {A : Type 0} → A → Bool → List A → (List A → List A) → List A
 spread_one absent true [] others = absent ∷ others []
 spread_one absent true (value ∷ values) others = value ∷ others values
@@ -148,7 +152,8 @@ spread_one absent false values others = absent ∷ others values
 -- The same for n variables from i on.
 abbrev pub spread_from : {A : Type 0} → A → Scope → ℕ → ℕ → List A → List A
 spread_from absent scope i zero values = []
-spread_from absent scope i (suc n) values = spread_one absent (is_in scope i) values (spread_from absent scope (suc i) n)
+spread_from absent scope i (suc n) values =
+    spread_one absent (is_in scope i) values (spread_from absent scope (suc i) n)
 
 -- The environment of n variables in which those in scope have these values, by rising number, and all others the first
 -- argument.
@@ -164,11 +169,13 @@ spread scope n values = spread_with (pos 0) scope n values
 -- What an observer sees of at most n steps. `holds` judges the expression that a step evaluates, and `failed` is seen
 -- where it does not hold; `pass` is told how many marks were passed before, the mark and the values in scope there,
 -- and what is seen after it; `done` is told the result.
-module _ {R : Type 0} (holds : Option Expression → List ℤ → Bool) (failed : Option R) (pass : ℕ → ℕ → List ℤ → Option R → Option R) (done : ℤ → R) where
+module _ {R : Type 0} (holds : Option Expression → List ℤ → Bool) (failed : Option R)
+    (pass : ℕ → ℕ → List ℤ → Option R → Option R) (done : ℤ → R) where
   -- The same of what a step comes to, where the first argument tells what is seen after it.
   abbrev pub seen_next : (ℕ → Work → List ℤ → Option R) → ℕ → Next → Option R
   seen_next others marks (Goes work env) = others marks work env
-  seen_next others marks (Passes mark work env) = pass marks mark (values_in (scope_of work) env) (others (suc marks) work env)
+  seen_next others marks (Passes mark work env) =
+      pass marks mark (values_in (scope_of work) env) (others (suc marks) work env)
   seen_next others marks (Ends value) = Some (done value)
 
   abbrev pub seen : ℕ → ℕ → Work → List ℤ → Option R

@@ -10,5 +10,6 @@ sums = record {
   vars = 3;
   body =
       Set 1 (Num (pos 0)) (Set 2 (Num (pos 0))
-      (Loop (Some 42) (Bin Less (Var 1) (Var 0)) (Set 2 (Bin Add (Var 2) (Var 1)) (Set 1 (Bin Add (Var 1) (Num (pos 1))) Nil)) Nil true (Return (Var 2) Nil)));
+      (Loop (Some 42) (Bin Less (Var 1) (Var 0))
+      (Set 2 (Bin Add (Var 2) (Var 1)) (Set 1 (Bin Add (Var 1) (Num (pos 1))) Nil)) Nil true (Return (Var 2) Nil)));
 }

@@ -8,7 +8,8 @@ use Rattle.c_ast.specs.Returns.{always}
 -- A mark in front of the trace that follows it.
 abbrev pub with_event : ℕ → ℕ → List ℤ → Option Trace → Option Trace
 with_event marks mark values None = None
-with_event marks mark values (Some trace) = Some (record { events = record { mark = mark; values = values } ∷ trace.events; result = trace.result })
+with_event marks mark values (Some trace) =
+    Some (record { events = record { mark = mark; values = values } ∷ trace.events; result = trace.result })
 
 -- The trace of a run that passes no mark.
 abbrev pub no_event : ℤ → Trace

@@ -28,8 +28,8 @@ unary_value Plus a = a
 unary_value Minus a = neg_ℤ a
 unary_value Not a = test_value (not (is_nonzero a))
 
--- The value of a binary operator's expression (6.5.5, 6.5.6, 6.5.8, 6.5.9, 6.5.13 and 6.5.14). A quotient is truncated toward
--- zero, and a remainder has the sign of the left operand; `Division.antt` says so in the standard's words.
+-- The value of a binary operator's expression (6.5.5, 6.5.6, 6.5.8, 6.5.9, 6.5.13 and 6.5.14). A quotient is truncated
+-- toward zero, and a remainder has the sign of the left operand; `Division.antt` says so in the standard's words.
 abbrev pub binary_value : BinOp → ℤ → ℤ → ℤ
 binary_value Mul a b = a *ℤ b
 binary_value Div a b = int_div a b

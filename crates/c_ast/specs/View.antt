@@ -28,7 +28,8 @@ joined (first ∷ others) = first (joined others)
 abbrev pub statement_level : Stmt-F (Statements → Statements) → Statements → Statements
 statement_level (Stmt-F.Set x e) others = tree.Set x (expression_of e) others
 statement_level (Stmt-F.If e a b) others = tree.If (expression_of e) (joined a) (joined b) others
-statement_level (Stmt-F.Loop mark cond body step test_first) others = tree.Loop mark (expression_of cond) (joined body) (joined step) test_first others
+statement_level (Stmt-F.Loop mark cond body step test_first) others =
+    tree.Loop mark (expression_of cond) (joined body) (joined step) test_first others
 statement_level Stmt-F.Break others = tree.Break others
 statement_level Stmt-F.Continue others = tree.Continue others
 statement_level (Stmt-F.Return e) others = tree.Return (expression_of e) others

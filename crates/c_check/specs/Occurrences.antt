@@ -66,8 +66,8 @@ abbrev pub names_in_for : RawStatements → Names → Names
 names_in_for (raw.Declare declarators others) names = with_names declarators names
 names_in_for _ names = names
 
--- Those of declarators: each name is in scope in its own initialiser. `scope` has the names in scope, and `block` those of
--- the block.
+-- Those of declarators: each name is in scope in its own initialiser. `scope` has the names in scope, and `block` those
+-- of the block.
 abbrev pub in_declarators : Names → Names → List RawDeclared → List Occurrence
 in_declarators scope block [] = []
 in_declarators scope block (declared ∷ declarators) =

@@ -1,6 +1,6 @@
 -- Which statements of a checked function the statements of a file stand for (ISO C11, 6.2.1 for scopes, 6.5 for
--- expressions, 6.8 for statements): names are variables' numbers, divisors are their sizes, loops have one form, and each
--- turn of a loop passes a mark.
+-- expressions, 6.8 for statements): names are variables' numbers, divisors are their sizes, loops have one form, and
+-- each turn of a loop passes a mark.
 use Rattle.std.specs.Prelude.{◌≡◌, ℕ, suc, ◌+◌, Bool, true, false, if◌then◌else◌, List, [], ◌∷◌, length, Option, Some, None, ℤ, pos, option_map, find, bytes_eq}
 use Rattle.c_ast.specs.declared.expr.UnOp.{UnOp}
 use Rattle.c_ast.specs.declared.expr.BinOp.{BinOp}

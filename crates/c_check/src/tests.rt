@@ -176,12 +176,14 @@ fn faults_are_found(rt: HostRuntime) -> Result<(), Fail> {
         ),
         (
             answer(alloc, 1, turning(alloc, None)?)?,
-            "[Loop { mark: None, cond: Var(0), body: Items { items: [Mark(5)] }, step: Items { items: [] }, test_first: true }]",
+            "[Loop { mark: None, cond: Var(0), body: Items { items: [Mark(5)] }, \
+            step: Items { items: [] }, test_first: true }]",
         ),
         (answer(alloc, 1, turning(alloc, Some(5))?)?, "MarkTwice(5)"),
         (
             answer(alloc, 1, turning(alloc, Some(6))?)?,
-            "[Loop { mark: Some(6), cond: Var(0), body: Items { items: [Mark(5)] }, step: Items { items: [] }, test_first: true }]",
+            "[Loop { mark: Some(6), cond: Var(0), body: Items { items: [Mark(5)] }, \
+            step: Items { items: [] }, test_first: true }]",
         ),
         (
             answer(alloc, 0, turning(alloc, Some(7))?)?,

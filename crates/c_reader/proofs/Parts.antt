@@ -114,7 +114,8 @@ OperandIs-from_operand kind line others inside operand e last is =
     OperandIs-from_sign kind line others inside operand e last is
 
 -- what goes on from a left operand
-pub data JoinedIs (left : RawExpression) (tokens : List Token) (level : ℕ) (right : ℕ → Reader) (further : Further) (e : RawExpression) (last : List Token) : Type 0 where
+pub data JoinedIs (left : RawExpression) (tokens : List Token) (level : ℕ) (right : ℕ → Reader) (further : Further) (e : RawExpression)
+    (last : List Token) : Type 0 where
   ends : left ≡ e → tokens ≡ last → Stops level tokens → JoinedIs left tokens level right further e last
   goes_on : (at : ℕ) (op : BinOp) (line : ℕ) (others : List Token) (f : RawExpression) (after : List Token)
       → IsNext level tokens at op line others → right (suc at) others ≡ Some (f, after)

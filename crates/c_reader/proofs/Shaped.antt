@@ -116,7 +116,8 @@ mutual
       (shaped_condition cond vs test, shaped_statement body ws spells tree.Nil tt, shaped)
   shaped_statement front us (stmt.do_while body cond first word opening closing semicolon vs ws is_first is opens closes ends spells test) others shaped =
       (shaped_statement body vs spells tree.Nil tt, shaped_condition cond ws test, shaped)
-  shaped_statement front us (stmt.for start cond step body word opening first second closing vs ws xs ys is opens is_first is_second closes starts test steps spells) others shaped =
+  shaped_statement front us
+      (stmt.for start cond step body word opening first second closing vs ws xs ys is opens is_first is_second closes starts test steps spells) others shaped =
       let at_start = optional_start start vs starts in
       let at_step = optional_step step xs steps in
       (at_start.0, at_start.1, optional_condition cond ws test, at_step.0, at_step.1, shaped_statement body ys spells tree.Nil tt, shaped)
@@ -133,7 +134,8 @@ mutual
       shaped_statement front vs first (raw_joined others) (shaped_entries others ws spells)
 
 shaped_function : (func : RawFunction) (us : List Token) → SpellsFunction func us → IsShaped func
-shaped_function func us (unit.function var params entries opening closing opening_curly closing_curly qualifiers vs ws xs ys opens closes opens_block closes_block are type named parameters body) =
+shaped_function func us (unit.function var params entries opening closing opening_curly closing_curly qualifiers vs ws xs ys opens closes opens_block
+    closes_block are type named parameters body) =
     shaped_entries entries ys body
 
 pub shaped_unit : (tokens : List Token) (funcs : List RawFunction) → SpellsUnit tokens funcs → All IsShaped funcs

@@ -7,8 +7,8 @@ use Rattle.c_tokens.specs.declared.kind.Kind.TheVariants as k
 use Rattle.c_tokens.specs.declared.token.Token.{Token}
 use Rattle.c_reader.specs.Expressions.{SpellsExpression}
 
--- A statement or a declaration is seen as what it puts in front of the others of its list, since the trees of a list are
--- one tree. So `break;` on line 3 is the function `tree.Break 3`, and `{ break; continue; }` on that line holds the
+-- A statement or a declaration is seen as what it puts in front of the others of its list, since the trees of a list
+-- are one tree. So `break;` on line 3 is the function `tree.Break 3`, and `{ break; continue; }` on that line holds the
 -- statements `tree.Break 3 (tree.Continue 3 tree.Nil)`.
 abbrev pub Statement : Type 0
 Statement = RawStatements → RawStatements
@@ -17,7 +17,8 @@ Statement = RawStatements → RawStatements
 pub data SpellsListed {X : Type 0} (Spells : X → List Token → Type 0) : List X → List Token → Type 0 where
   last : (x : X) (tokens : List Token) → Spells x tokens → SpellsListed Spells (x ∷ []) tokens
   more : (x : X) (others : List X) (comma : Token) (before behind : List Token) → comma.kind ≡ k.Comma
-      → Spells x before → SpellsListed Spells others behind → SpellsListed Spells (x ∷ others) (before ++ comma ∷ behind)
+      → Spells x before → SpellsListed Spells others behind
+      → SpellsListed Spells (x ∷ others) (before ++ comma ∷ behind)
 
 -- The tokens spell the thing, or there are none where it is left out.
 pub data SpellsOptional {X : Type 0} (Spells : X → List Token → Type 0) : Option X → List Token → Type 0 where

@@ -39,7 +39,8 @@ statements_depth (tree.Do body cond others) =
     max (max (statements_depth body) (expression_depth cond.cond) + 1) (statements_depth others)
 statements_depth (tree.For start cond step body others) =
     max
-    (max (max (statements_depth start) (condition_depth cond)) (max (statements_depth step) (statements_depth body)) + 1)
+    (max (max (statements_depth start) (condition_depth cond))
+    (max (statements_depth step) (statements_depth body)) + 1)
     (statements_depth others)
 statements_depth (tree.Break line others) = max 1 (statements_depth others)
 statements_depth (tree.Continue line others) = max 1 (statements_depth others)
@@ -75,7 +76,8 @@ is_closing_bracket token = closes token.kind
 
 -- In the first tokens, this many, the openings exceed the closings by more than 200.
 abbrev pub IsDeepAt : List Token → ℕ → Type 0
-IsDeepAt tokens count = count_by is_closing_bracket (take count tokens) + 200 < count_by is_opening_bracket (take count tokens)
+IsDeepAt tokens count =
+    count_by is_closing_bracket (take count tokens) + 200 < count_by is_opening_bracket (take count tokens)
 
 -- In some prefix of the tokens the openings `(` and `{` exceed the closings `)` and `}` by more than 200.
 abbrev pub IsDeep : List Token → Type 0

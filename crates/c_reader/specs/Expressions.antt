@@ -33,8 +33,8 @@ operator_of k.Slash = Some (6, binary.Div)
 operator_of k.Percent = Some (6, binary.Rem)
 operator_of _ = None
 
--- The tokens spell the expression at a level: 0 is that of `? :`, then come the levels of the binary operators, 7 is that
--- of signs before an operand, and 8 that of names, constants and brackets.
+-- The tokens spell the expression at a level: 0 is that of `? :`, then come the levels of the binary operators, 7 is
+-- that of signs before an operand, and 8 that of names, constants and brackets.
 pub data SpellsAt : ℕ → RawExpression → List Token → Type 0 where
   -- a name, with its line (6.5.1)
   named : (name : List ℕ) (token : Token) → token.kind ≡ k.Word name → SpellsAt 8 (Named name token.line) (token ∷ [])

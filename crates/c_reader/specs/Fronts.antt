@@ -1,5 +1,5 @@
--- What stands at the front of tokens: a token, or a sign, which is a token of one spelling. Only proofs and the contracts
--- of private functions cite these.
+-- What stands at the front of tokens: a token, or a sign, which is a token of one spelling. Only proofs and the
+-- contracts of private functions cite these.
 use Rattle.std.specs.Prelude.{ℕ, zero, suc, Bool, false, ◌||◌, if◌then◌else◌, List, [], ◌∷◌, Option, Some, None}
 use Rattle.c_tokens.specs.declared.kind.Kind.{Kind}
 use Rattle.c_tokens.specs.declared.token.Token.{Token}

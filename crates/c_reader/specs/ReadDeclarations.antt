@@ -51,7 +51,8 @@ behind_type tokens =
     else (behind_sign fixed.Long tokens >>= λ others. Some (skipped fixed.Int (skipped fixed.Long others)))
 
 -- a thing and those behind a comma, if one follows
-abbrev pub listed_by : {X : Type 0} → X → List Token → Option (List Token) → (List Token → Reads (List X)) → Reads (List X)
+abbrev pub listed_by : {X : Type 0} → X → List Token → Option (List Token) → (List Token → Reads (List X))
+    → Reads (List X)
 listed_by first tokens None others = Some (first ∷ [], tokens)
 listed_by first tokens (Some behind_comma) others = others behind_comma >>= λ x. Some (first ∷ x.0, x.1)
 

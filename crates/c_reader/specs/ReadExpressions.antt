@@ -43,11 +43,12 @@ abbrev pub operand_by : Kind → ℕ → List Token → Reading → Reading → 
 operand_by (k.Word name) line others inside operand = Some (Named name line, others)
 operand_by (k.Constant value) line others inside operand =
     if nat_lt value (2 ^ 63) then Some (Num (pos value), others) else None
-operand_by k.OpenRound line others inside operand = inside >>= λ x. behind_sign fixed.CloseRound x.1 >>= λ after. Some (x.0, after)
+operand_by k.OpenRound line others inside operand =
+    inside >>= λ x. behind_sign fixed.CloseRound x.1 >>= λ after. Some (x.0, after)
 operand_by kind line others inside operand = unary_of kind >>= λ op. operand >>= λ x. Some (Un op x.0, x.1)
 
--- An operand and the operator behind it, if there is one: then its right operand is read by `right`, and the reading goes
--- on from their operation by `further`.
+-- An operand and the operator behind it, if there is one: then its right operand is read by `right`, and the reading
+-- goes on from their operation by `further`.
 abbrev pub joined_by : RawExpression → List Token → Option NextOperator → (ℕ → Reader) → Further → Reading
 joined_by left tokens None right further = Some (left, tokens)
 joined_by left tokens (Some (level, op, line, others)) right further =
@@ -113,4 +114,5 @@ expression_at tokens = whole_by operand_at (further_at 1) choice_at tokens
 
 -- Each expression that is read is deeper than this.
 abbrev pub IsDeeper : ℕ → Reading → Type 0
-IsDeeper depth reading = (e : RawExpression) (others : List Token) → reading ≡ Some (e, others) → depth < expression_depth e
+IsDeeper depth reading =
+    (e : RawExpression) (others : List Token) → reading ≡ Some (e, others) → depth < expression_depth e

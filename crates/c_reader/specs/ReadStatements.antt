@@ -1,5 +1,5 @@
--- Statements at the front of tokens, by recursive descent. `room` is the greatest depth of what is read. Only proofs and
--- the contracts of private functions cite these: `Statements` says which tokens spell a statement.
+-- Statements at the front of tokens, by recursive descent. `room` is the greatest depth of what is read. Only proofs
+-- and the contracts of private functions cite these: `Statements` says which tokens spell a statement.
 use Rattle.std.specs.Prelude.{ℕ, zero, suc, pos, ◌-◌, if◌then◌else◌, List, [], ◌∷◌, length, Option, Some, None}
 use Rattle.c_ast.specs.declared.expr.BinOp.{BinOp}
 use Rattle.c_ast.specs.RawTree as tree
@@ -108,9 +108,11 @@ do_at room inside tokens =
 unfoldable pub head_at : ℕ → List Token → Reads (Option Statement × Option RawCondition × Option Statement)
 head_at room tokens =
     behind_sign fixed.OpenRound tokens >>= λ head.
-    unless (begins fixed.Semicolon head) head (start_at room) >>= λ start. behind_sign fixed.Semicolon start.1 >>= λ middle.
+    unless (begins fixed.Semicolon head) head (start_at room) >>= λ start.
+    behind_sign fixed.Semicolon start.1 >>= λ middle.
     unless (begins fixed.Semicolon middle) middle (condition_at room) >>= λ cond.
-    behind_sign fixed.Semicolon cond.1 >>= λ last. unless (begins fixed.CloseRound last) last (simple_at room) >>= λ step.
+    behind_sign fixed.Semicolon cond.1 >>= λ last.
+    unless (begins fixed.CloseRound last) last (simple_at room) >>= λ step.
     behind_sign fixed.CloseRound step.1 >>= λ body. Some ((start.0, cond.0, step.0), body)
 
 -- the rest of a `for` behind its word

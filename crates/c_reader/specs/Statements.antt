@@ -26,7 +26,8 @@ step_of k.PlusPlus = Some binary.Add
 step_of k.MinusMinus = Some binary.Sub
 step_of _ = None
 
--- The operation of a variable, on its line, and an expression, with the line of the operator, is assigned to the variable.
+-- The operation of a variable, on its line, and an expression, with the line of the operator, is assigned to the
+-- variable.
 abbrev pub updated : List ℕ → ℕ → BinOp → ℕ → RawExpression → Statement
 updated name line op operator_line e = tree.Assign name line (tree.Bin op operator_line (tree.Named name line) e)
 

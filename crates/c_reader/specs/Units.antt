@@ -44,5 +44,6 @@ pub data SpellsUnit : List Token → List RawFunction → Type 0 where
 
 -- Two files that one list of tokens spells are equal.
 abbrev pub HasOneTree : Type 0
-HasOneTree = (tokens : List Token) (first second : List RawFunction) → SpellsUnit tokens first → SpellsUnit tokens second
+HasOneTree =
+    (tokens : List Token) (first second : List RawFunction) → SpellsUnit tokens first → SpellsUnit tokens second
     → first ≡ second

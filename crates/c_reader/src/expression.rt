@@ -103,7 +103,8 @@ fn joined(alloc: Global, op: BinOp, line: u32, left: Tree, right: Tree) -> Resul
 fn chosen(alloc: Global, cond: Tree, first: Tree, second: Tree) -> Result<Tree, AllocError>
     requires { max cond.depth (max first.depth second.depth) + 1 < 2 ^ 32 }
     ensures made { IfOk result (λ tree. raw_expression_of tree.expr
-        ≡ Cond (raw_expression_of cond.expr) (raw_expression_of first.expr) (raw_expression_of second.expr)) }
+        ≡ Cond (raw_expression_of cond.expr) (raw_expression_of first.expr)
+        (raw_expression_of second.expr)) }
     ensures depth { IfOk result (λ tree.
         tree.depth ≡ max cond.depth (max first.depth second.depth) + 1) }
 {

@@ -135,7 +135,8 @@ within_step n [] env h = tt
 within_step n (Run s Nil ∷ w) env h = h.1
 within_step n (Run s (Set x e c) ∷ w) env h = (h.0.2, h.1)
 within_step n (Run s (If e a b c) ∷ w) env h = within_if n (is_nonzero (eval e env)) s a b c w h.0.1 h.0.2 h.0.3 h.1
-within_step n (Run s (Loop m e b t f c) ∷ w) env h = within_entered n f s (record { mark = m; cond = e; body = b; step = t }) c w (record { cond = h.0.0; body = h.0.1; step = h.0.2 }) h.0.3 h.1
+within_step n (Run s (Loop m e b t f c) ∷ w) env h =
+    within_entered n f s (record { mark = m; cond = e; body = b; step = t }) c w (record { cond = h.0.0; body = h.0.1; step = h.0.2 }) h.0.3 h.1
 within_step n (Run s (Break c) ∷ w) env h = within_past n w h.1
 within_step n (Run s (Continue c) ∷ w) env h = within_to n w h.1
 within_step n (Run s (Return e c) ∷ w) env h = tt
@@ -157,8 +158,10 @@ bare_within n (Tail s l ∷ w) h = (h.0, bare_within n w h.1)
 formed_within : (c : Statements) (n : ℕ) (s : Scope) (in_loop : Bool) → IsBelow n s → AreFormed n s in_loop c → AreWithin n c
 formed_within Nil n s in_loop b h = tt
 formed_within (Set x e c) n s in_loop b h = (h.0, set_can_evaluate (is_in s x) e n s b h.1, formed_within c n (x ∷ s) in_loop (set_stays_below n x s h.0 b) h.2)
-formed_within (If e p q c) n s in_loop b h = (over_can_evaluate e n s b h.0, formed_within p n s in_loop b h.1, formed_within q n s in_loop b h.2, formed_within c n s in_loop b h.3)
-formed_within (Loop m e p t f c) n s in_loop b h = (over_can_evaluate e n s b h.0, formed_within p n s true b h.1, formed_within t n s in_loop b h.2, formed_within c n s in_loop b h.5)
+formed_within (If e p q c) n s in_loop b h =
+    (over_can_evaluate e n s b h.0, formed_within p n s in_loop b h.1, formed_within q n s in_loop b h.2, formed_within c n s in_loop b h.3)
+formed_within (Loop m e p t f c) n s in_loop b h =
+    (over_can_evaluate e n s b h.0, formed_within p n s true b h.1, formed_within t n s in_loop b h.2, formed_within c n s in_loop b h.5)
 formed_within (Break c) n s in_loop b h = formed_within c n s in_loop b h.1
 formed_within (Continue c) n s in_loop b h = formed_within c n s in_loop b h.1
 formed_within (Return e c) n s in_loop b h = (over_can_evaluate e n s b h.0, formed_within c n s in_loop b h.1)

@@ -13,7 +13,12 @@ use Rattle.c_ast.specs.Step.{LoopParts, Run, Test, Cond, Tail, Work, past_tail, 
 
 -- The loop that a turn's parts stand for.
 abbrev pub loop_of : Parts → LoopParts
-loop_of parts = record { mark = parts.mark; cond = expression_of parts.cond.now; body = statements_of parts.body.now; step = statements_of parts.step.now }
+loop_of parts = record {
+  mark = parts.mark;
+  cond = expression_of parts.cond.now;
+  body = statements_of parts.body.now;
+  step = statements_of parts.step.now;
+}
 
 -- The item that an item of the interpreter stands for.
 abbrev pub item_of : Item → run.Item
@@ -47,9 +52,12 @@ bare_next (run.Ends value) = run.Ends value
 
 -- The interpreter's step from one work and environment to the next is the run's, scopes aside, or meets a wide value.
 abbrev pub TakesStep : Work → List ℤ → Next → Work → List ℤ → Type 0
-TakesStep old env next.Goes new env' = (evaluates_fitting (evaluated old) env ≡ true) × (bare_next (step old env) ≡ run.Goes new env')
-TakesStep old env (next.Passes mark) new env' = (evaluates_fitting (evaluated old) env ≡ true) × (bare_next (step old env) ≡ run.Passes mark new env')
-TakesStep old env (next.Ends value) new env' = (evaluates_fitting (evaluated old) env ≡ true) × (bare_next (step old env) ≡ run.Ends value)
+TakesStep old env next.Goes new env' =
+    (evaluates_fitting (evaluated old) env ≡ true) × (bare_next (step old env) ≡ run.Goes new env')
+TakesStep old env (next.Passes mark) new env' =
+    (evaluates_fitting (evaluated old) env ≡ true) × (bare_next (step old env) ≡ run.Passes mark new env')
+TakesStep old env (next.Ends value) new env' =
+    (evaluates_fitting (evaluated old) env ≡ true) × (bare_next (step old env) ≡ run.Ends value)
 TakesStep old env next.Wide new env' = evaluates_fitting (evaluated old) env ≡ false
 
 -- The tail at which a `continue` goes on, in front of what is behind it.

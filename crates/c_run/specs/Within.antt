@@ -9,7 +9,8 @@ abbrev pub AreWithin : ℕ → Statements → Type 0
 AreWithin n Nil = Unit {0}
 AreWithin n (Set x e others) = (x < n) × CanEvaluate n e × AreWithin n others
 AreWithin n (If e a b others) = CanEvaluate n e × AreWithin n a × AreWithin n b × AreWithin n others
-AreWithin n (Loop mark cond body step test_first others) = CanEvaluate n cond × AreWithin n body × AreWithin n step × AreWithin n others
+AreWithin n (Loop mark cond body step test_first others) =
+    CanEvaluate n cond × AreWithin n body × AreWithin n step × AreWithin n others
 AreWithin n (Break others) = AreWithin n others
 AreWithin n (Continue others) = AreWithin n others
 AreWithin n (Return e others) = CanEvaluate n e × AreWithin n others

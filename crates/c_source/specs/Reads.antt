@@ -14,8 +14,8 @@ use Rattle.c_source.specs.declared.fault.TextFault.TheVariants as refusal
 use Rattle.c_source.specs.TextFaults.{IsNoWant}
 use Rattle.c_source.specs.Unread.{IsUnread}
 
--- The tokens of the text spell these functions: no more than 200 brackets are open at once, and the tree has at most 400
--- levels.
+-- The tokens of the text spell these functions: no more than 200 brackets are open at once, and the tree has at most
+-- 400 levels.
 pub record Parses (text : List ℕ) (unit : List RawFunction) : Type 0 where
   pub tokens : List Token
   pub are : AreTokens text tokens

@@ -118,7 +118,8 @@ constant_of-whole bytes value (decimal first digits suffix digit nonzero all end
 constant_of-whole bytes value (octal digits suffix all ends) =
     rw (no_mark digits suffix all ends) (number_of-digits 8 (48 ∷ digits) suffix all (suffix-stops 8 suffix (omega arith) ends) ends)
 constant_of-whole bytes value (hexadecimal mark first digits suffix marked digit all ends) =
-    hex-value (48 ∷ mark ∷ ((first ∷ digits) ++ suffix)) (rw (marked, digit) refl) ∙ (number_of-digits 16 (first ∷ digits) suffix (rw digit all) (suffix-stops 16 suffix (omega arith) ends) ends)
+    hex-value (48 ∷ mark ∷ ((first ∷ digits) ++ suffix)) (rw (marked, digit) refl)
+    ∙ (number_of-digits 16 (first ∷ digits) suffix (rw digit all) (suffix-stops 16 suffix (omega arith) ends) ends)
 
 eqb-true : (x y : ℕ) → eqb x y ≡ true → x ≡ y
 eqb-true x y e = grind (arith, nat_tests)

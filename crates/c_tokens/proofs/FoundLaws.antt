@@ -279,7 +279,8 @@ letter_or_digit byte w d = grind (arith, nat_tests)
 
 sound_by : (text : List ℕ) (d w : Bool) → 0 < length text → is_digit (get_or text 0 0) ≡ d → is_word_byte (get_or text 0 0) ≡ w
     → LexemeFound text (cond d (constant_found text) (cond w (word_found (take (word_len text) text)) (row_found (row_at operators text))))
-sound_by text true w some digit e = answer_sound text (eqb (get_or (drop (word_len text) text) 0 0) 46) (constant_of (take (word_len text) text)) digit refl refl
+sound_by text true w some digit e =
+    answer_sound text (eqb (get_or (drop (word_len text) text) 0 0) 46) (constant_of (take (word_len text) text)) digit refl refl
 sound_by text false true some digit e = word_sound text some (letter_or_digit (get_or text 0 0) e digit)
 sound_by text false false some digit e = row_sound text (row_at operators text) e refl
 

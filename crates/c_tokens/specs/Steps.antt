@@ -30,7 +30,8 @@ place_behind before = record { line = line_of before; column = column_of before;
 -- what the program answers at a place, by what stands there
 abbrev pub step_of : Place → List ℕ → Found → Result (Option Token × ℕ) TokenFault
 step_of place text (t.Gap len) = Ok (None, len)
-step_of place text (t.Token kind len) = Ok (Some (record { kind = kind; line = place.line; column = place.column }), len)
+step_of place text (t.Token kind len) =
+    Ok (Some (record { kind = kind; line = place.line; column = place.column }), len)
 step_of place text t.NoToken = Err (f.NoToken place.line place.column)
 step_of place text (t.Unsupported len) = Err (f.Unsupported (take len text) place.line place.column)
 step_of place text t.LiteralRange = Err (f.LiteralRange place.line place.column)

@@ -93,7 +93,8 @@ by_expected : (word : List ℕ) (words : List (List ℕ)) (now : Given) (expecte
 by_expected word words now _ items command workers (at_word _ _ spells) makes = spelled word words now items command workers spells makes
 by_expected word words now _ _ command workers (at_operand _) makes =
     let next = moved (operand word) now (map operand words) command workers makes in
-    by_item word words now next.0 expects.Operand expects.Operand (map operand words) command workers (with_operand word now) refl next.1 (at_operand words) next.2
+    by_item word words now next.0 expects.Operand expects.Operand (map operand words) command workers (with_operand word now) refl next.1
+    (at_operand words) next.2
 by_expected word words now _ _ command workers (at_value option _ item _ items says no_dash spells) makes =
     let next = moved item now items command workers makes in
     by_item word words now next.0 (expects.Value option) expects.Word items command workers (with_value option word now) (taken_value option word now no_dash)

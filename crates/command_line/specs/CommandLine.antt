@@ -64,8 +64,8 @@ pub data SpellsValue : Valued → List ℕ → Item → Type 0 where
       → SpellsValue (Number setting) value (given setting n)
   says_text : (value : List ℕ) → IsConditionText value → SpellsValue Pre value (condition value)
 
--- The words say these items, one after the other. A value is the rest of the word after `=`, or else the next word, which
--- does not begin with a dash. After the word `--` each word is an operand.
+-- The words say these items, one after the other. A value is the rest of the word after `=`, or else the next word,
+-- which does not begin with a dash. After the word `--` each word is an operand.
 pub data Spells : List (List ℕ) → List Item → Type 0 where
   end : Spells [] []
   dashes : (words : List (List ℕ)) → Spells (codes "--" ∷ words) (map operand words)
@@ -117,7 +117,8 @@ is_same _ _ = false
 abbrev pub numbers : Setting → List Item → List ℕ
 numbers setting [] = []
 numbers setting (alone ∷ items) = numbers setting items
-numbers setting (given other number ∷ items) = if is_same other setting then number ∷ numbers setting items else numbers setting items
+numbers setting (given other number ∷ items) =
+    if is_same other setting then number ∷ numbers setting items else numbers setting items
 numbers setting (condition text ∷ items) = numbers setting items
 numbers setting (operand word ∷ items) = numbers setting items
 

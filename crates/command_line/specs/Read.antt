@@ -1,4 +1,5 @@
--- Reading a command line word by word, as a plain function. `proofs/Whole.antt` shows that it reads what `CommandLine.antt` says.
+-- Reading a command line word by word, as a plain function. `proofs/Whole.antt` shows that it reads what
+-- `CommandLine.antt` says.
 use Rattle.std.specs.Prelude.{ℕ, Bool, true, false, not, nat_lt, nat_le, ◌==◌, ◌&&◌, if◌then◌else◌, List, [], ◌∷◌, length, Option, Some, None, is_some, option_map, option_and_then, codes, bytes_eq}
 use Rattle.std.specs.Char.{digit_value}
 use Rattle.std.specs.List.{list_all, list_any, before_first, after_first}
@@ -91,7 +92,8 @@ is_numeral digits = nat_lt 0 (length digits) && list_all (λ c. nat_lt (digit_va
 -- The number that the word writes, where it fits 64 bits.
 abbrev pub value_of : List ℕ → Option ℕ
 value_of word =
-    if is_numeral (without_leading_plus word) && nat_lt (digits_value 10 (without_leading_plus word)) 18446744073709551616
+    if is_numeral (without_leading_plus word)
+    && nat_lt (digits_value 10 (without_leading_plus word)) 18446744073709551616
     then Some (digits_value 10 (without_leading_plus word)) else None
 
 -- Whether the word is as long as a condition's text may be.
@@ -100,7 +102,16 @@ is_condition word = nat_le 1 (length word) && nat_le (length word) 4096
 
 -- What no words give.
 abbrev pub nothing : Given
-nothing = record { alone = false; workers = None; samples = None; marks = None; rows = None; seed = None; condition = None; operands = names.None }
+nothing = record {
+  alone = false;
+  workers = None;
+  samples = None;
+  marks = None;
+  rows = None;
+  seed = None;
+  condition = None;
+  operands = names.None;
+}
 
 -- The option's number so far.
 abbrev pub number_of : Setting → Given → Option ℕ

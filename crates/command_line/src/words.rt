@@ -30,8 +30,8 @@ pub enum NoCommand {
     Memory,
 }
 
-/// What the words say, where they are a command line. `words` leave out the program's name. The error
-/// is that they are none, or that memory ran out.
+/// What the words say, where they are a command line. `words` leave out the program's name. The
+/// error is that they are none, or that memory ran out.
 pub fn read_command(alloc: Global, words: &[String]) -> Result<Command, NoCommand>
     ensures command { IfOk result (IsCommand (map string_bytes words.now)) }
     ensures refused { IfErr result (IsNoCommand (map string_bytes words.now)) }

@@ -6,8 +6,8 @@
 //! 0: then no point meets all the rows. Farkas' lemma (1902) adds that rows without a common point
 //! always have such multipliers. Finding them is the work of others, who need not be believed:
 //! `refutes` is the check, and `specs/Refutes.antt` says what it decides. `refutes_of` is the same
-//! check of rows that need not stand in memory. `lin_prover` asks it of what `simplex` suggests, and
-//! what `elimination` answers is proved to pass it.
+//! check of rows that need not stand in memory. `lin_prover` asks it of what `simplex` suggests,
+//! and what `elimination` answers is proved to pass it.
 #![tactic(auto)]
 
 mod law;

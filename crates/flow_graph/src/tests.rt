@@ -1,5 +1,5 @@
-//! A graph that was worked out by hand, from the order in which statements are laid, and scopes that
-//! are compared with those that the function tells.
+//! A graph that was worked out by hand, from the order in which statements are laid, and scopes
+//! that are compared with those that the function tells.
 ghost use Rattle.std.specs.Prelude.{◌≡◌, length, pos, IfOk, Some, None, true};
 ghost use Rattle.c_ast.specs.declared.place.Place.TheVariants as place;
 ghost use Rattle.c_ast.specs.Tree as tree;

@@ -11,8 +11,8 @@ use flow_graph::{Graph, Op};
 use sqlite_items::Items;
 use std::alloc::{AllocError, Global};
 
-/// What a step comes to: the run goes on at a node, passes a mark, or ends with a result, or a value
-/// of 2^100 or more in size was met.
+/// What a step comes to: the run goes on at a node, passes a mark, or ends with a result, or a
+/// value of 2^100 or more in size was met.
 pub(crate) enum Next {
     Goes(u32),
     Passes { mark: u32, next: u32 },
@@ -65,7 +65,8 @@ pub(crate) fn event(
     environment: &[i128],
 ) -> Result<Event, AllocError>
     requires place { HasPlace graph.now (place.Mark mark) }
-    requires variables { All (λ x. x < length environment.now) (variables_at graph.now (place.Mark mark)) }
+    requires variables { All (λ x. x < length environment.now)
+        (variables_at graph.now (place.Mark mark)) }
     ensures { IfOk result (λ event. event ≡ event_of graph.now mark environment.now) }
 {
     let variables = graph.vars_at(alloc, Place::Mark(mark))?;

@@ -15,7 +15,7 @@ atoms_among (entry ∷ entries) node = if is_same_node entry.0 node then Some en
 abbrev pub atoms_at : Family → Node → Option (List Atom)
 atoms_at family node = atoms_among family.nodes node
 
--- The values, those of side A's place and then those of side B's, are in the family at the node: it has the node, and all
--- atoms there hold.
+-- The values, those of side A's place and then those of side B's, are in the family at the node: it has the node, and
+-- all atoms there hold.
 abbrev pub InFamily : Family → Node → List ℤ → Type 0
 InFamily family node values = IsSomeAnd (atoms_at family node) (All (λ atom. AtomHolds atom values))

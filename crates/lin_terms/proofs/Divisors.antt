@@ -127,7 +127,8 @@ exact_quotient n x h =
     let found = floor_div_is n x in
     let g : ℤ = pos (suc n) in
     let exact = multiple_of_divisor (suc n) x h in
-    let r_zero : found.0 ≡ 0 = no_remainder n found.0 (int_div x g -ℤ floor_div x (suc n)) found.1 (difference_step g (int_div x g) (floor_div x (suc n)) (pos found.0) (exact ∙ found.2)) in
+    let r_zero : found.0 ≡ 0 = no_remainder n found.0 (int_div x g -ℤ floor_div x (suc n)) found.1
+    (difference_step g (int_div x g) (floor_div x (suc n)) (pos found.0) (exact ∙ found.2)) in
     let e : x ≡ (g *ℤ floor_div x (suc n)) +ℤ pos 0 = subst (λ r. x ≡ (g *ℤ floor_div x (suc n)) +ℤ pos r) r_zero found.2 in
     omega (arith, ints)
 

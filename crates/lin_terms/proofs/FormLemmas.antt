@@ -79,7 +79,8 @@ zeros-fit : (n : ℕ) → fit_form (replicate n (pos 0)) ≡ true
 zeros-fit zero = refl
 zeros-fit (suc n) = zeros-fit n
 
-pub fitting-constant_form : (f : Form) (n : ℕ) (z : ℤ) → fits_form z ≡ true → f.coefs ≡ replicate n (pos 0) → f.constant ≡ z → fitting (constant_form n z) ≡ Some f
+pub fitting-constant_form : (f : Form) (n : ℕ) (z : ℤ) → fits_form z ≡ true → f.coefs ≡ replicate n (pos 0) → f.constant ≡ z
+    → fitting (constant_form n z) ≡ Some f
 fitting-constant_form f n z e p q =
     fitting_constant (fits_form z) (fit_form (replicate n (pos 0))) (constant_form n z) e (zeros-fit n) ∙ ap Some (sym (equal_parts f (constant_form n z) p q))
 

@@ -74,14 +74,16 @@ unsolvable_iff n row values e h =
     let d : ℤ = dot (map (λ x. floor_div x (suc n)) row.coefs) values in
     let g : ℤ = pos (suc n) in (
       λ m. absurd (never_row_fails (length row.coefs) values m),
-      λ m. absurd (eqb-false (unsigned_abs row.constant % suc n) 0 not_divided (divides_constant n d row.constant (rw (dot-quotients n row.coefs values h) (subst (λ b. Allows b (dot row.coefs values +ℤ row.constant)) p.0 m)))),
+      λ m. absurd (eqb-false (unsigned_abs row.constant % suc n) 0 not_divided
+          (divides_constant n d row.constant (rw (dot-quotients n row.coefs values h) (subst (λ b. Allows b (dot row.coefs values +ℤ row.constant)) p.0 m)))),
     )
 
 solvable_iff : (n : ℕ) (row : Row) (values : List ℤ) → is_unsolvable (suc n) row ≡ false → DividesAll (suc n) row.coefs
     → Holds values (divided_row (suc n) row) ↔ Holds values row
 solvable_iff n row values e h =
     let d : ℤ = dot (map (λ x. floor_div x (suc n)) row.coefs) values in
-    subst (λ z. Allows row.equality (d +ℤ floor_div row.constant (suc n)) ↔ Allows row.equality (z +ℤ row.constant)) (dot-quotients n row.coefs values h) (divided_iff row.equality n d row.constant e)
+    subst (λ z. Allows row.equality (d +ℤ floor_div row.constant (suc n)) ↔ Allows row.equality (z +ℤ row.constant)) (dot-quotients n row.coefs values h)
+    (divided_iff row.equality n d row.constant e)
 
 tight_case : (t : Bool) (n : ℕ) (row : Row) (values : List ℤ) → is_unsolvable (suc n) row ≡ t → DividesAll (suc n) row.coefs
     → Holds values (cond t (never_row (length row.coefs)) (divided_row (suc n) row)) ↔ Holds values row

@@ -18,14 +18,15 @@ use Rattle.relation.specs.Invariants.{AreKept}
 abbrev pub ForcesEqualResults : List Atom → Type 0
 ForcesEqualResults atoms = Contains atoms equal_results ⊎ Contains atoms False
 
--- The values of both sides are in the family at the node. At the entries those of side A, the inputs, meet the condition too.
+-- The values of both sides are in the family at the node. At the entries those of side A, the inputs, meet the
+-- condition too.
 pub record IsInFamily (condition : Expression) (family : Family) (n : Node) (d e : List ℤ) : Type 0 where
   pub inside : InFamily family n (d ++ e)
   pub meets : n ≡ entries → Meets condition d
 
--- The family couples the functions, on inputs that meet the condition, under the alignment. At the entries it says exactly
--- that the parameters are equal, pairwise. From each node but the two exits, and from all values in the family there,
--- whatever both sides' moves end with is in the family again. At the exits it forces equal results.
+-- The family couples the functions, on inputs that meet the condition, under the alignment. At the entries it says
+-- exactly that the parameters are equal, pairwise. From each node but the two exits, and from all values in the family
+-- there, whatever both sides' moves end with is in the family again. At the exits it forces equal results.
 pub record IsCoupling (f g : Program) (condition : Expression) (alignment : ℕ) (family : Family) : Type 0 where
   pub at_entries : atoms_at family entries ≡ Some (equal_parameters f.params)
   pub kept : AreKept f g alignment (IsInFamily condition family)
@@ -34,10 +35,12 @@ pub record IsCoupling (f g : Program) (condition : Expression) (alignment : ℕ)
 -- Where a family couples two functions with as many parameters, no inputs that meet the condition make the two return
 -- differently.
 abbrev pub LawOfCouplings : Type 0
-LawOfCouplings = (f g : Program) (condition : Expression) (alignment : ℕ) (family : Family) → IsProgram f → IsProgram g → f.params ≡ g.params
+LawOfCouplings = (f g : Program) (condition : Expression) (alignment : ℕ) (family : Family)
+    → IsProgram f → IsProgram g → f.params ≡ g.params
     → IsAlignment alignment → IsCoupling f g condition alignment family → NeverDiffer f g condition
 
 -- A coupling of all inputs is one under each condition.
 abbrev pub CouplesUnderEach : Type 0
-CouplesUnderEach = (f g : Program) (condition : Expression) (alignment : ℕ) (family : Family) → IsCoupling f g no_condition alignment family
+CouplesUnderEach = (f g : Program) (condition : Expression) (alignment : ℕ) (family : Family)
+    → IsCoupling f g no_condition alignment family
     → IsCoupling f g condition alignment family

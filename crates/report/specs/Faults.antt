@@ -25,9 +25,11 @@ abbrev pub token_text : List ℕ → TokenFault → List ℕ
 token_text name (tokens.NoToken line column) =
     codes "llreve: " ++ name ++ codes ":" ++ decimal line ++ codes ":" ++ decimal column ++ codes ": no token\n"
 token_text name (tokens.Unsupported word line column) =
-    codes "llreve: " ++ name ++ codes ":" ++ decimal line ++ codes ":" ++ decimal column ++ codes ": unsupported " ++ word ++ codes "\n"
+    codes "llreve: " ++ name ++ codes ":" ++ decimal line ++ codes ":" ++ decimal column ++ codes ": unsupported "
+    ++ word ++ codes "\n"
 token_text name (tokens.LiteralRange line column) =
-    codes "llreve: " ++ name ++ codes ":" ++ decimal line ++ codes ":" ++ decimal column ++ codes ": literal out of range\n"
+    codes "llreve: " ++ name ++ codes ":" ++ decimal line ++ codes ":" ++ decimal column
+    ++ codes ": literal out of range\n"
 token_text name tokens.Memory = []
 
 -- The line of a text that is not in the grammar, or that is nested too deep.
@@ -39,17 +41,21 @@ reader_text name read.Memory = []
 -- The line of a broken rule on functions, names, loops and marks.
 abbrev pub check_text : List ℕ → CheckFault → List ℕ
 check_text name check.NoFunction = about name (codes ": no function")
-check_text name (check.ManyFunctions count) = codes "llreve: " ++ name ++ codes ": " ++ decimal count ++ codes " functions\n"
+check_text name (check.ManyFunctions count) =
+    codes "llreve: " ++ name ++ codes ": " ++ decimal count ++ codes " functions\n"
 check_text name (check.Undeclared word line) =
     codes "llreve: " ++ name ++ codes ":" ++ decimal line ++ codes ": undeclared " ++ word ++ codes "\n"
 check_text name (check.Twice word line) =
     codes "llreve: " ++ name ++ codes ":" ++ decimal line ++ codes ": declared twice " ++ word ++ codes "\n"
-check_text name (check.Outside line) = codes "llreve: " ++ name ++ codes ":" ++ decimal line ++ codes ": outside a loop\n"
-check_text name (check.MarkRange mark) = codes "llreve: " ++ name ++ codes ": mark " ++ decimal mark ++ codes " out of range\n"
+check_text name (check.Outside line) =
+    codes "llreve: " ++ name ++ codes ":" ++ decimal line ++ codes ": outside a loop\n"
+check_text name (check.MarkRange mark) =
+    codes "llreve: " ++ name ++ codes ": mark " ++ decimal mark ++ codes " out of range\n"
 check_text name (check.MarkTwice mark) = codes "llreve: " ++ name ++ codes ": mark " ++ decimal mark ++ codes " twice\n"
 check_text name (check.Divisor line) =
     codes "llreve: " ++ name ++ codes ":" ++ decimal line ++ codes ": divisor not a nonzero constant\n"
-check_text name (check.ManyVariables count) = codes "llreve: " ++ name ++ codes ": " ++ decimal count ++ codes " variables\n"
+check_text name (check.ManyVariables count) =
+    codes "llreve: " ++ name ++ codes ": " ++ decimal count ++ codes " variables\n"
 check_text name check.Memory = []
 
 -- The line of two functions with these numbers of parameters.

@@ -43,7 +43,8 @@ pub record IsToldOnce (samples : List (Option Skipped)) (index : ℕ) : Type 0 w
   pub row : Option Skipped × List ℕ
   pub among : Contains causes row
   pub told : Contains (indexes_where row.0 samples) index
-  pub once : (other : Option Skipped × List ℕ) → Contains causes other → Contains (indexes_where other.0 samples) index → other ≡ row
+  pub once : (other : Option Skipped × List ℕ) → Contains causes other → Contains (indexes_where other.0 samples) index
+      → other ≡ row
 
 -- The index of each sample is told for exactly one of the causes.
 abbrev pub TellsEachOnce : Type 0

@@ -8,7 +8,8 @@ use Rattle.trace_pair.specs.declared.skipped.Skipped.{Skipped}
 use Rattle.trace_pair.specs.Pairs.{IsCauseOf}
 use Rattle.report.specs.Indexes.{indexes_text}
 
--- The cause of a skip is one of its side's: of the condition it is `Wide` or `Unmet`, and of a run `NotEnded` or `Wide`.
+-- The cause of a skip is one of its side's: of the condition it is `Wide` or `Unmet`, and of a run `NotEnded` or
+-- `Wide`.
 abbrev pub IsKeptSample : Option Skipped → Type 0
 IsKeptSample None = Unit {0}
 IsKeptSample (Some skipped) = IsCauseOf skipped.side skipped.why
@@ -39,7 +40,8 @@ is_same (Some skipped) None = false
 abbrev pub indexes_from : ℕ → Option Skipped → List (Option Skipped) → List ℕ
 indexes_from index cause [] = []
 indexes_from index cause (sample ∷ samples) =
-    if is_same sample cause then index ∷ indexes_from (suc index) cause samples else indexes_from (suc index) cause samples
+    if is_same sample cause then index ∷ indexes_from (suc index) cause samples
+    else indexes_from (suc index) cause samples
 
 -- The indexes of the samples that are this one, from 0.
 abbrev pub indexes_where : Option Skipped → List (Option Skipped) → List ℕ

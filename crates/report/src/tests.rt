@@ -206,7 +206,8 @@ fn different_functions(rt: HostRuntime) -> Result<(), Fail> {
             &[0, -7, 20],
             1,
             -1267650600228229401496703205376,
-            "different\nsample 999\ninput 0 -7 20\nA returns 1\nB returns -1267650600228229401496703205376\n",
+            "different\nsample 999\ninput 0 -7 20\nA returns 1\n\
+            B returns -1267650600228229401496703205376\n",
         ),
     ];
     for (index, input, first, second, text) in rows {

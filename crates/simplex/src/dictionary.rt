@@ -143,6 +143,7 @@ impl Dictionary {
         })
     }
 
+    /// What each entry is divided by: at least 1.
     pub fn denominator(&self) -> i128 {
         self.denominator
     }

@@ -19,6 +19,7 @@ fn inverse_of(odd: i128) -> i128 {
 }
 
 impl Divisor {
+    /// Its powers of two apart, and the inverse of what is left modulo 2^128.
     pub fn new(divisor: i128) -> Divisor {
         let shift = divisor.trailing_zeros();
         let inverse = inverse_of(divisor.wrapping_shr(shift));

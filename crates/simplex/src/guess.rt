@@ -22,6 +22,7 @@ pub enum Guess {
 }
 
 impl Guess {
+    /// The multipliers, where there are some.
     pub(crate) fn of_multipliers(found: Option<Vec<i128>>) -> Guess {
         match found {
             Some(multipliers) => Guess::Multipliers(multipliers),

@@ -12,14 +12,17 @@ pub enum Variable {
 }
 
 impl Variable {
+    /// Whether it is one of the rows' variables, which may have any sign.
     pub fn is_free(&self) -> bool {
         matches!(self, Variable::Free(_))
     }
 
+    /// Whether it is the slack of an inequality, which is not negative.
     pub fn is_slack(&self) -> bool {
         matches!(self, Variable::Slack(_))
     }
 
+    /// Whether it is the slack of an equality, which is 0.
     pub fn is_zero(&self) -> bool {
         matches!(self, Variable::Zero(_))
     }

@@ -65,8 +65,11 @@ kept_waited rows (entry ∷ moves) work kept =
 pub sound_waited : (room : ℕ) (graph : FlowGraph) (kept : ℕ) (moves : List Entry) (work : List Waiting) → All (EntryIsSound room graph) moves
     → AreSound room graph work → AreSound room graph (map (waiting kept) moves ++ work)
 sound_waited room graph kept [] work sound others = others
-sound_waited room graph kept (entry ∷ moves) work sound others =
-    (All-head (EntryIsSound room graph) entry moves sound, sound_waited room graph kept moves work (All-tail (EntryIsSound room graph) entry moves sound) others)
+sound_waited room graph kept (entry ∷ moves) work sound others = (
+  All-head (EntryIsSound room graph) entry moves sound,
+  sound_waited room graph kept moves work
+      (All-tail (EntryIsSound room graph) entry moves sound) others,
+)
 
 -- ---- steps
 
@@ -170,7 +173,8 @@ module _ (room : ℕ) (graph : FlowGraph) where
           (onward (arrival_behind (take next.kept rows) (entry_of e) ∷ walk_of (take next.kept rows) others) (resume room graph))))) is
 
       weight_is : weights graph (walk_of rows (next ∷ others))
-          ≡ weights graph (Arrives (record { state = record { rows = take next.kept rows ++ own; columns = columns }; value = move_of step }) ∷ walk_of (take next.kept rows) others)
+          ≡ weights graph (Arrives (record { state = record { rows = take next.kept rows ++ own; columns = columns }; value = move_of step })
+          ∷ walk_of (take next.kept rows) others)
       weight_is = ap (λ (e : Entry). weights graph (arrival_behind (take next.kept rows) (entry_of e) ∷ walk_of (take next.kept rows) others)) is
 
       -- the rows that are kept then

@@ -16,7 +16,8 @@ grid_size arity = 5 ^ min arity 3
 
 -- A parameter takes the value whose number is its digit of the index to base 5, the lowest digit being parameter 0's.
 abbrev pub grid_value : ℕ → ℕ → ℤ
-grid_value index parameter = if nat_lt parameter 3 then slice_index_or grid (index / 5 ^ parameter % 5) (pos 0) else pos 0
+grid_value index parameter =
+    if nat_lt parameter 3 then slice_index_or grid (index / 5 ^ parameter % 5) (pos 0) else pos 0
 
 -- the generator of an index: the settings' seed, on a stream of the index's own
 abbrev pub generator_of : ℕ → ℕ → Lcg
@@ -34,7 +35,8 @@ word_value word = pos (word % 41) -ℤ pos 20
 -- the values of the parameters at an index, of which there are `arity`
 abbrev pub input_of : Bounds → ℕ → ℕ → List ℤ
 input_of settings index arity =
-    if nat_lt index (grid_size arity) then map (grid_value index) (range_with_len 0 arity) else map word_value (words arity (generator_of settings.seed index))
+    if nat_lt index (grid_size arity) then map (grid_value index) (range_with_len 0 arity)
+    else map word_value (words arity (generator_of settings.seed index))
 
 -- The value is one from -20 to 20.
 abbrev pub IsNear : ℤ → Type 0

@@ -26,16 +26,16 @@ abbrev pub PairIsNoSkip : Type 0
 PairIsNoSkip = (subject : Comparison) (index : ℕ) (pair : Pair) (skipped : Skipped)
     → IsPair subject index pair → ¬ IsSkip subject index skipped
 
--- A function's trace on these inputs: of at most so many marks, of values below 2^100 in size, and with the result that the
--- function returns.
+-- A function's trace on these inputs: of at most so many marks, of values below 2^100 in size, and with the result that
+-- the function returns.
 pub record IsTraceWithin (marks : ℕ) (f : Program) (inputs : List ℤ) (trace : Trace) : Type 0 where
   pub is : IsTrace f inputs trace
   pub few : length trace.events ≤ marks
   pub fits : TraceFitsRun trace
   pub returns : Returns f inputs trace.result
 
--- The input of a pair has a value from -20 to 20 for each parameter and meets the condition, and the pair's traces are those
--- of the functions on it.
+-- The input of a pair has a value from -20 to 20 for each parameter and meets the condition, and the pair's traces are
+-- those of the functions on it.
 pub record HasTraces (subject : Comparison) (pair : Pair) : Type 0 where
   pub arity : length pair.input ≡ subject.first.params
   pub near : All IsNear pair.input

@@ -1,5 +1,5 @@
--- Which samples are pairs of runs, and why the others are skipped. The condition on the inputs is asked first, then side A
--- is run, and then side B.
+-- Which samples are pairs of runs, and why the others are skipped. The condition on the inputs is asked first, then
+-- side A is run, and then side B.
 use Rattle.std.specs.Prelude.{◌≡◌, ℕ, true, false, List, ℤ, pos, Result, Ok, Err}
 use Rattle.c_ast.specs.declared.trace.Outcome.TheVariants.{Returned, CutOff, Wide}
 use Rattle.c_ast.specs.declared.place.Side.{Side}
@@ -33,7 +33,8 @@ pub record Admits (condition : Expression) (inputs : List ℤ) : Type 0 where
   pub fits : parts_fit_run condition inputs ≡ true
   pub met : Meets condition inputs
 
--- The condition keeps the inputs out for this cause: a part of it has a value of 2^100 or more in size, or else its value is 0.
+-- The condition keeps the inputs out for this cause: a part of it has a value of 2^100 or more in size, or else its
+-- value is 0.
 abbrev pub KeepsOut : Expression → List ℤ → Skip → Type 0
 KeepsOut condition inputs skip.NotEnded = ⊥
 KeepsOut condition inputs skip.Wide = parts_fit_run condition inputs ≡ false
@@ -46,8 +47,8 @@ KeepsOut condition inputs skip.Memory = ⊥
 abbrev pub ReturnsWithin : ℕ → Program → List ℤ → Trace → Type 0
 ReturnsWithin marks f inputs trace = IsJudged f inputs marks (Returned trace)
 
--- The run meets this first: mark number `marks + 1`, or a value of 2^100 or more in size. Want of memory and a condition are
--- nothing that a run meets.
+-- The run meets this first: mark number `marks + 1`, or a value of 2^100 or more in size. Want of memory and a
+-- condition are nothing that a run meets.
 abbrev pub MeetsFirst : ℕ → Program → List ℤ → Skip → Type 0
 MeetsFirst marks f inputs skip.NotEnded = IsJudged f inputs marks CutOff
 MeetsFirst marks f inputs skip.Wide = IsJudged f inputs marks Wide
@@ -68,20 +69,22 @@ pub record FirstReturns (subject : Comparison) (inputs : List ℤ) : Type 0 wher
   pub trace : Trace
   pub returns : ReturnsWithin subject.settings.marks (program_of subject.first) inputs trace
 
--- A sample is skipped for the condition where that keeps its input out; on side A where the condition lets it through and A's
--- run meets the cause; and on side B where A's run returns and B's meets the cause.
+-- A sample is skipped for the condition where that keeps its input out; on side A where the condition lets it through
+-- and A's run meets the cause; and on side B where A's run returns and B's meets the cause.
 abbrev pub IsSkippedOn : Comparison → List ℤ → Side → Skip → Type 0
 IsSkippedOn subject inputs Pre why = KeepsOut (condition_of subject) inputs why
-IsSkippedOn subject inputs A why = Admits (condition_of subject) inputs × MeetsFirst subject.settings.marks (program_of subject.first) inputs why
+IsSkippedOn subject inputs A why =
+    Admits (condition_of subject) inputs × MeetsFirst subject.settings.marks (program_of subject.first) inputs why
 IsSkippedOn subject inputs B why =
-    Admits (condition_of subject) inputs × FirstReturns subject inputs × MeetsFirst subject.settings.marks (program_of subject.second) inputs why
+    Admits (condition_of subject) inputs × FirstReturns subject inputs
+    × MeetsFirst subject.settings.marks (program_of subject.second) inputs why
 
 -- The sample is skipped on this side for this cause.
 abbrev pub IsSkip : Comparison → ℕ → Skipped → Type 0
 IsSkip subject index skipped = IsSkippedOn subject (input_at subject index) skipped.side skipped.why
 
--- What a side may be skipped for: a run, since it does not end or for a wide value; the condition, for a wide value or since
--- the input does not meet it.
+-- What a side may be skipped for: a run, since it does not end or for a wide value; the condition, for a wide value or
+-- since the input does not meet it.
 abbrev pub IsCauseOf : Side → Skip → Type 0
 IsCauseOf A skip.NotEnded = Unit {0}
 IsCauseOf A skip.Wide = Unit {0}
@@ -112,13 +115,15 @@ AnswersPair subject index (Err refused.Memory) = Unit {0}
 -- What is answered of the condition, which takes no memory.
 abbrev pub AnswersCondition : Expression → List ℤ → Result (Unit {0}) PairRefused → Type 0
 AnswersCondition condition inputs (Ok done) = Admits condition inputs
-AnswersCondition condition inputs (Err (refused.Skipped skipped)) = (skipped.side ≡ Pre) × KeepsOut condition inputs skipped.why
+AnswersCondition condition inputs (Err (refused.Skipped skipped)) =
+    (skipped.side ≡ Pre) × KeepsOut condition inputs skipped.why
 AnswersCondition condition inputs (Err refused.Memory) = ⊥
 
 -- What is answered of one side's run.
 abbrev pub AnswersRun : Side → ℕ → Program → List ℤ → Result Trace PairRefused → Type 0
 AnswersRun side marks f inputs (Ok trace) = ReturnsWithin marks f inputs trace
-AnswersRun side marks f inputs (Err (refused.Skipped skipped)) = (skipped.side ≡ side) × MeetsFirst marks f inputs skipped.why
+AnswersRun side marks f inputs (Err (refused.Skipped skipped)) =
+    (skipped.side ≡ side) × MeetsFirst marks f inputs skipped.why
 AnswersRun side marks f inputs (Err refused.Memory) = Unit {0}
 
 -- These are the graphs of both functions.

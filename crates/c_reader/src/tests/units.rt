@@ -260,7 +260,8 @@ const FILES: [Row; 44] = [
     ),
     // A file as users write it.
     (
-        "#include <assert.h>\nextern int __mark(int);\n/* c */\nint f(int n) { int i = 1; int s = 0; \
+        "#include <assert.h>\nextern int __mark(int);\n/* c */\n\
+        int f(int n) { int i = 1; int s = 0; \
         while (__mark(42) & (i <= n)) { s += i; i++; } return s; }\n",
         "f@4(n@4) {var i@4 = 1; var s@4 = 0; while #42 (i@4 <=@4 n@4) [{s@4 = (s@4 +@4 i@4); \
         i@4 = (i@4 +@4 1);}]; return s@4;}",

@@ -1,5 +1,5 @@
-//! Steps of runs of random texts, each from one place to the next: of the cases of the segments from
-//! a place exactly one holds at the values there, and it leads where the run leads.
+//! Steps of runs of random texts, each from one place to the next: of the cases of the segments
+//! from a place exactly one holds at the values there, and it leads where the run leads.
 ghost use Rattle.flow_graph.specs.FlowGraph.{GoesOnAt};
 
 use super::random::{INPUTS, text_of};

@@ -22,7 +22,8 @@ loop-taken-init c =
     c.in_ok-put.ensures ∙ ap (λ b. Run [] (statements_of b) ∷ work_of c.new-work.result.items) c.body-body.ensures.body
     ∙ ap (λ l. Run [] (statements_of c.args.func.now.body) ∷ work_of l) c.new-work.ensures.items in
     rw c.new-events.ensures
-    (begins f c.body-body.ensures.formed c.args.inputs.now c.args.steps (c.args.steps - 0) c.put.new.work.items c.as_mut_slice-environment.result.now (omega arith) work environment)
+    (begins f c.body-body.ensures.formed c.args.inputs.now c.args.steps (c.args.steps - 0) c.put.new.work.items c.as_mut_slice-environment.result.now
+    (omega arith) work environment)
 
 pub step-requires : goal.step-requires
 step-requires c =
@@ -35,26 +36,31 @@ event-requires-clause-place c =
     let f = program_of c.args.func.now in
     let o = outcome_within c.args.steps f c.args.inputs.now in
     let left = c.args.steps - (c.loop-taken._taken + 1) in
-    let takes = subst (λ (n : Next). TakesStep (work_of c.loop-taken.work.items) c.loop-taken.environment n (work_of c.step.new.work.items) c.step.new.environment) c.in-Passes.is c.in_ok-step.ensures in
+    let takes = subst (λ (n : Next). TakesStep (work_of c.loop-taken.work.items) c.loop-taken.environment n
+    (work_of c.step.new.work.items) c.step.new.environment) c.in-Passes.is c.in_ok-step.ensures in
     passed_place f o left c.loop-taken.events c.in-Passes.mark c.step.new.work.items c.step.new.environment
-    (passes f o (c.args.steps - c.loop-taken._taken) left c.loop-taken.events c.in-Passes.mark c.loop-taken.work.items c.step.new.work.items c.loop-taken.environment c.step.new.environment (omega arith) c.loop-taken.invariant takes)
+    (passes f o (c.args.steps - c.loop-taken._taken) left c.loop-taken.events c.in-Passes.mark c.loop-taken.work.items c.step.new.work.items
+    c.loop-taken.environment c.step.new.environment (omega arith) c.loop-taken.invariant takes)
 
 pub returns-in-Ends : goal.returns-in-Ends
 returns-in-Ends c =
     let f = program_of c.args.func.now in
     let o = outcome_within c.args.steps f c.args.inputs.now in
     let fits : FitsSigned w128 c.in-Ends.result = search rules in
-    let takes = subst (λ (n : Next). TakesStep (work_of c.loop-taken.work.items) c.loop-taken.environment n (work_of c.step.new.work.items) c.step.new.environment) c.in-Ends.is c.in_ok-step.ensures in
+    let takes = subst (λ (n : Next). TakesStep (work_of c.loop-taken.work.items) c.loop-taken.environment n
+    (work_of c.step.new.work.items) c.step.new.environment) c.in-Ends.is c.in_ok-step.ensures in
     rw (to_z-of_z fits)
     (ends f o (c.args.steps - c.loop-taken._taken)
-    (c.args.steps - (c.loop-taken._taken + 1)) c.loop-taken.events c.in-Ends.result c.loop-taken.work.items (work_of c.step.new.work.items) c.loop-taken.environment
+    (c.args.steps - (c.loop-taken._taken + 1)) c.loop-taken.events c.in-Ends.result c.loop-taken.work.items
+    (work_of c.step.new.work.items) c.loop-taken.environment
     c.step.new.environment (omega arith) c.loop-taken.invariant takes)
 
 pub returns-in-Wide : goal.returns-in-Wide
 returns-in-Wide c =
     let f = program_of c.args.func.now in
     let o = outcome_within c.args.steps f c.args.inputs.now in
-    let takes = subst (λ (n : Next). TakesStep (work_of c.loop-taken.work.items) c.loop-taken.environment n (work_of c.step.new.work.items) c.step.new.environment) c.in-Wide.is c.in_ok-step.ensures in
+    let takes = subst (λ (n : Next). TakesStep (work_of c.loop-taken.work.items) c.loop-taken.environment n
+    (work_of c.step.new.work.items) c.step.new.environment) c.in-Wide.is c.in_ok-step.ensures in
     meets_wide f o (c.args.steps - c.loop-taken._taken)
     (c.args.steps - (c.loop-taken._taken + 1)) c.loop-taken.events c.loop-taken.work.items (work_of c.step.new.work.items) c.loop-taken.environment
     c.step.new.environment (omega arith) c.loop-taken.invariant takes
@@ -66,12 +72,17 @@ loop-taken-preserved c =
     let left = c.args.steps - (c.loop-taken._taken + 1) in
     elim c.match-branch-4.branch [
       | in-Goes w ↦
-          let takes = subst (λ (n : Next). TakesStep (work_of c.loop-taken.work.items) c.loop-taken.environment n (work_of c.step.new.work.items) c.step.new.environment) w.in-Goes.is c.in_ok-step.ensures in
+          let takes = subst (λ (n : Next). TakesStep (work_of c.loop-taken.work.items) c.loop-taken.environment n
+          (work_of c.step.new.work.items) c.step.new.environment) w.in-Goes.is c.in_ok-step.ensures in
           rw w.events-is
-          (goes f o (c.args.steps - c.loop-taken._taken) left c.loop-taken.events c.loop-taken.work.items c.step.new.work.items c.loop-taken.environment c.step.new.environment (omega arith) c.loop-taken.invariant takes)
+          (goes f o (c.args.steps - c.loop-taken._taken) left c.loop-taken.events c.loop-taken.work.items c.step.new.work.items c.loop-taken.environment
+          c.step.new.environment (omega arith) c.loop-taken.invariant takes)
       | in-Passes+in_ok-event-in-Passes+in_ok-push-in-Passes w ↦
-          let takes = subst (λ (n : Next). TakesStep (work_of c.loop-taken.work.items) c.loop-taken.environment n (work_of c.step.new.work.items) c.step.new.environment) w.in-Passes.is c.in_ok-step.ensures in
-          let passed = passes f o (c.args.steps - c.loop-taken._taken) left c.loop-taken.events w.in-Passes.mark c.loop-taken.work.items c.step.new.work.items c.loop-taken.environment c.step.new.environment (omega arith) c.loop-taken.invariant takes in
+          let takes = subst (λ (n : Next). TakesStep (work_of c.loop-taken.work.items) c.loop-taken.environment n
+          (work_of c.step.new.work.items) c.step.new.environment) w.in-Passes.is c.in_ok-step.ensures in
+          let passed = passes f o (c.args.steps - c.loop-taken._taken) left c.loop-taken.events w.in-Passes.mark c.loop-taken.work.items c.step.new.work.items
+          c.loop-taken.environment c.step.new.environment (omega arith) c.loop-taken.invariant takes in
           let events = w.events-is ∙ w.in_ok-push-in-Passes.ensures.ok in
-          rw events (passed_on f o left c.loop-taken.events w.in-Passes.mark c.step.new.work.items c.step.new.environment w.in_ok-event-in-Passes.event passed w.in_ok-event-in-Passes.ensures)
+          rw events (passed_on f o left c.loop-taken.events w.in-Passes.mark c.step.new.work.items c.step.new.environment w.in_ok-event-in-Passes.event passed
+          w.in_ok-event-in-Passes.ensures)
     ]

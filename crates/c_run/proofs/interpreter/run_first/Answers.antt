@@ -27,8 +27,10 @@ returns-in-If c =
 
 pub returns-in_ok-enter-in-Loop : goal.returns-in_ok-enter-in-Loop
 returns-in_ok-enter-in-Loop c =
-    let is = first_of c.args.stmts.now c.first-item.result (Loop c.in-Loop.mark c.in-Loop.cond c.in-Loop.body c.in-Loop.step c.in-Loop.test_first) c.in-len1-up.len_at_least c.first-item.is c.in-Loop.is in
-    takes-Loop c.args.stmts.now _ c.in-Loop.body c.in-Loop.step c.in-Loop.mark c.in-Loop.cond c.in-Loop.test_first _ c.args.environment.now c.args.work.now.items c.put.new.work.items c.enter.new.work.items is
+    let is = first_of c.args.stmts.now c.first-item.result
+    (Loop c.in-Loop.mark c.in-Loop.cond c.in-Loop.body c.in-Loop.step c.in-Loop.test_first) c.in-len1-up.len_at_least c.first-item.is c.in-Loop.is in
+    takes-Loop c.args.stmts.now _ c.in-Loop.body c.in-Loop.step c.in-Loop.mark c.in-Loop.cond c.in-Loop.test_first _ c.args.environment.now
+    c.args.work.now.items c.put.new.work.items c.enter.new.work.items is
     c.parts_of-parts.ensures c.in_ok-put-in-Loop.ensures c.in_ok-enter-in-Loop.ensures
 
 pub returns-in-Break : goal.returns-in-Break
@@ -49,5 +51,6 @@ returns-in_ok-put-in-Mark c =
 pub returns-in_ok-put-in-Block-2 : goal.returns-in_ok-put-in-Block-2
 returns-in_ok-put-in-Block-2 c =
     let is = first_of c.args.stmts.now c.first-item.result (Block c.in-Block.a) c.in-len1-up.len_at_least c.first-item.is c.in-Block.is in
-    takes-Block c.args.stmts.now _ c.in-Block.a c.as_slice.result.now c.args.environment.now c.args.work.now.items c.put-in-Block.new.work.items c.put-in-Block-2.new.work.items is
+    takes-Block c.args.stmts.now _ c.in-Block.a c.as_slice.result.now c.args.environment.now c.args.work.now.items c.put-in-Block.new.work.items
+    c.put-in-Block-2.new.work.items is
     c.in_ok-put-in-Block.ensures c.as_slice.ensures c.in_ok-put-in-Block-2.ensures

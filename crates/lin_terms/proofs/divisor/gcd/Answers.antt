@@ -24,4 +24,5 @@ returns-clause-greatest c =
 pub returns-clause-exact : goal.returns-clause-exact
 returns-clause-exact c =
     let ended : c.loop-b.b ≡ 0 = search rules in
-    same_from_IsGcd c.args.a c.args.b c.loop-b.a (gcd c.args.a c.args.b) (c.loop-b.invariant c.loop-b.a (IsGcd-from_zero c.loop-b.a c.loop-b.b ended)) (gcd_is c.args.a c.args.b)
+    same_from_IsGcd c.args.a c.args.b c.loop-b.a (gcd c.args.a c.args.b) (c.loop-b.invariant c.loop-b.a (IsGcd-from_zero c.loop-b.a c.loop-b.b ended))
+    (gcd_is c.args.a c.args.b)

@@ -21,8 +21,10 @@ returns-in-Ends-clause-goes c =
     ends_on c.args.room c.args.graph.now c.args.rows.now c.args.next (reverse c.args.work.now.items) c.args.cases.now.items c.requires.can
     c.in-Arrives.own c.in-Arrives.columns c.in-Ends.to c.in-Ends.forms c.keep.new.rows c.end.new.cases.items is c.in_ok-keep-in-Arrives.ensures joined.0
     (joined.1
-    ∙ ap (λ (rs : List Row). c.args.cases.now.items ++ completed (path_of rs c.in-Arrives.columns c.in-Ends.to c.as_slice-in-Ends.result.now) ∷ []) c.as_slice.ensures
-    ∙ ap (λ (fs : List Form). c.args.cases.now.items ++ completed (path_of c.keep.new.rows c.in-Arrives.columns c.in-Ends.to fs) ∷ []) c.as_slice-in-Ends.ensures.value))
+    ∙ ap (λ (rs : List Row). c.args.cases.now.items ++ completed (path_of rs c.in-Arrives.columns c.in-Ends.to c.as_slice-in-Ends.result.now) ∷ [])
+    c.as_slice.ensures
+    ∙ ap (λ (fs : List Form). c.args.cases.now.items ++ completed (path_of c.keep.new.rows c.in-Arrives.columns c.in-Ends.to fs) ∷ [])
+    c.as_slice-in-Ends.ensures.value))
     c.end.ensures.joined
 
 pub returns-in_ok-go-in-Goes-clause-goes : goal.returns-in_ok-go-in-Goes-clause-goes
