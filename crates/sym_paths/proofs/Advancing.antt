@@ -1,6 +1,6 @@
 -- What a step of the code gives, entry by entry.
 use Rattle.std.proofs.Common.{◌≡◌, ℕ, zero, suc, Bool, true, false, List, [], ◌∷◌, ◌++◌, map, reverse, if◌then◌else◌}
-use Rattle.std.proofs.Common.{length, refl, ap, sym, subst, ◌∙◌, append_assoc, append-nil}
+use Rattle.std.proofs.Common.{refl, ap, sym, subst, ◌∙◌, append_assoc, append-nil}
 use Rattle.std.specs.Prelude.{ℤ, pos, ◌≤ℤ◌, ◌<◌, All, Option, Some, IsSome, slice_index_or, slice_get}
 use Rattle.std.specs.Option.{option_map}
 use Rattle.std.proofs.lemmas.List.Elements.{All-nil, All-cons, All-head, All-tail}
@@ -16,6 +16,7 @@ use Rattle.c_ast.specs.Tree.{Expression, Num, Var, Un, Bin, Cond}
 use Rattle.c_ast.specs.View.{expression_level, expression_of}
 use Rattle.c_ast.specs.Value.{IsDivisor, CanEvaluate}
 use Rattle.lin_terms.specs.declared.form.Form.{Form}
+use Rattle.lin_terms.specs.declared.row.Row.{Row}
 use Rattle.lin_terms.specs.Form.{constant_form}
 use Rattle.flow_graph.specs.declared.op.Op.{Op}
 use Rattle.flow_graph.specs.Operation.{Operation, Set, Branch, Mark, operation_of}
@@ -24,11 +25,14 @@ use Rattle.flow_graph.specs.WellFormed.{Fits, IsFlowGraph}
 use Rattle.sym_paths.specs.declared.arrival.Answer.{Answer}
 use Rattle.sym_paths.specs.declared.arrival.Made.{Made}
 use Rattle.sym_paths.specs.declared.task.Entry.{Entry}
+use Rattle.sym_paths.specs.declared.task.Entry.TheVariants as entry
+use Rattle.sym_paths.specs.declared.task.Move as coded_move
+use Rattle.sym_paths.specs.declared.task.Move.TheVariants as move
 use Rattle.sym_paths.specs.declared.task.Task as coded_task
 use Rattle.sym_paths.specs.declared.task.Pending as coded_pending
 use Rattle.sym_paths.specs.Walk.{State, Arrival, Walk, gives, onward}
 use Rattle.sym_paths.specs.Rows.{made}
-use Rattle.sym_paths.specs.Symbolic.{tested, divisor_of, test_form, binary_made}
+use Rattle.sym_paths.specs.Symbolic.{tested, divisor_of, binary_made}
 use Rattle.sym_paths.specs.Machine.{Task, Value, Binary, Todo, todo, operator_tasks, done, by_test, step, Pending, Move}
 use Rattle.sym_paths.specs.Machine.{Goes, with_todo, advanced_by, entered_by, entered}
 use Rattle.sym_paths.specs.Arrivals.{answer_of, made_of, task_of, pending_of, HasRoom, EntryIsSound}
@@ -66,6 +70,14 @@ module _ {A B X E : Type 0} (f : X → Arrival A) (g : E → Arrival B) (next : 
       → map g moves ++ onward (map f (reverse left)) next ≡ onward (map f whole) next → map g moves ≡ onward (map f whole) next
   onward_ends moves left whole none before =
       sym (append-nil (map g moves)) ∙ ap (λ (t : List X). map g moves ++ onward (map f (reverse t)) next) (sym none) ∙ before
+
+  -- what all but the last come to, and then the last
+  pub onward_both : (moves found : List E) (left whole : List X) (x : X) → whole ≡ left ++ x ∷ [] → map g moves ≡ onward (map f left) next
+      → map g found ≡ onward (f x ∷ []) next → map g (moves ++ found) ≡ onward (map f whole) next
+  onward_both moves found left whole x is before last =
+      map-append g moves found ∙ ap (λ (t : Walk B). t ++ map g found) before ∙ ap (λ (t : Walk B). onward (map f left) next ++ t) last
+      ∙ sym (onward_append (map f left) (f x ∷ []) next)
+      ∙ ap (λ (t : Walk A). onward t next) (sym (map-append f left (x ∷ []))) ∙ ap (λ (t : List X). onward (map f t) next) (sym is)
 
 -- ---- one task
 
@@ -209,9 +221,6 @@ tree_cond c e f = opened (expr.Cond c e f) _ (outs-Cond c e f)
 
 -- ---- room
 
-pub test_has_room : (room : ℕ) (test : Bool) (form : Form) → form ≡ test_form room test → HasRoom room form
-test_has_room room test form is = ap (λ (f : Form). length f.coefs) is ∙ length-replicate room (pos 0)
-
 pub variable_has_room : (room x : ℕ) (form : Form) (forms : List Form) → All (HasRoom room) forms
     → form ≡ slice_index_or forms x (constant_form room (pos 0)) → HasRoom room form
 variable_has_room room x form forms has is = subst (HasRoom room) (sym is) (within forms x has)
@@ -225,6 +234,11 @@ pub one_is_sound : (room : ℕ) (graph : FlowGraph) (e : Entry) (moves : List En
     → All (EntryIsSound room graph) moves
 one_is_sound room graph e moves is sound =
     subst (All (EntryIsSound room graph)) (sym is) (All-cons (EntryIsSound room graph) e [] sound (All-nil (EntryIsSound room graph)))
+
+pub sound_anywhere : (room : ℕ) (graph : FlowGraph) (rows other : List Row) (columns n : ℕ) (step : coded_move.Move)
+    → EntryIsSound room graph (entry.Arrives rows columns step) → EntryIsSound room graph (entry.Arrives other n step)
+sound_anywhere room graph rows other columns n (move.Goes p) sound = sound
+sound_anywhere room graph rows other columns n (move.Ends place forms) sound = tt
 
 -- ---- nodes
 

@@ -24,12 +24,12 @@ use Rattle.sym_paths.proofs.Waiting.{walk_waited, kept_waited, sound_waited}
 
 -- ---- the first moves
 
-none_in_front : {A : Type 0} (walk : Walk A) → walk_behind [] walk ≡ walk
+pub none_in_front : {A : Type 0} (walk : Walk A) → walk_behind [] walk ≡ walk
 none_in_front [] = refl
 none_in_front {A} (Arrives path ∷ walk) = ap (λ (w : Walk A). Arrives path ∷ w) (none_in_front walk)
 none_in_front {A} (Stops why ∷ walk) = ap (λ (w : Walk A). Stops why ∷ w) (none_in_front walk)
 
-behind_none : (r : Result (List Case) PathLimit) → behind_made [] r ≡ r
+pub behind_none : (r : Result (List Case) PathLimit) → behind_made [] r ≡ r
 behind_none (Ok cases) = refl
 behind_none (Err why) = refl
 

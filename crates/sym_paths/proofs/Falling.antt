@@ -17,7 +17,7 @@ use Rattle.flow_graph.specs.FlowGraph.{FlowGraph, operation_at}
 use Rattle.sym_paths.specs.Walk.{State, Path, Arrives, Stops, Walk, gives, onward}
 use Rattle.sym_paths.specs.Rows.{holds_alone, decided, joining, joined_tight, joined, all_joined, split, judged, made}
 use Rattle.sym_paths.specs.Symbolic.{nonzero_signs, zero_signs, negative_signs, not_positive_signs, positive_signs, not_negative_signs, tested_by, tested, negated_by, negated, parts, rows_from_zero, rows_below_zero, two_ways, with_column, unknown, divided_by, parted_by, parted, product_made, test_form, as_value, compared, unary_made, binary_made, quotient_made, rest_made}
-use Rattle.sym_paths.specs.Machine.{Task, Value, Unary, Binary, Quotient, Rest, Test, AndThen, OrElse, Choose, Todo, todo, operator_tasks, done, by_test, step, Goal, ToSet, ToBranch, ToReturn, Pending, Move, Goes, entered_by, entered, used, with_todo, advanced_by, advanced}
+use Rattle.sym_paths.specs.Machine.{Task, Value, Unary, Binary, Quotient, Rest, Test, AndThen, OrElse, Choose, Todo, todo, operator_tasks, done, by_test, step, Goal, ToSet, ToBranch, ToReturn, ToHold, only_where, holding, Pending, Move, Goes, Ends, entered_by, entered, used, with_todo, advanced_by, advanced}
 use Rattle.sym_paths.specs.Heights.{expression_height, task_height, tasks_height, goal_height, operation_height, four, node_height, pending_height, move_height, weights}
 use Rattle.sym_paths.specs.Points.{EachArrives}
 use Rattle.sym_paths.proofs.Walks.{each_append, onward_each}
@@ -122,6 +122,11 @@ module _ (room : ℕ) (graph : FlowGraph) where
       onward_all (IsBelow (1 + node_height graph left first + node_height graph left second)) (tested f state)
       (λ test. entered room graph left (cond test first second) forms) (λ test next. either_below left first second test forms next)
   used_below left ToReturn forms (f ∷ stack) state = (omega arith, tt)
+  used_below left ToHold forms (f ∷ stack) state = onward_all (IsBelow 1) (tested f state) (only_where (Ends holding)) pick
+    where
+      pick : (test : Bool) (next : State) → EachArrives (IsBelow 1) (only_where (Ends holding) test next)
+      pick true next = (omega arith, tt)
+      pick false next = tt
 
   task_below : (p : Pending) (tasks : List Task) (state : State)
       → EachArrives (IsBelow (tasks_height tasks + goal_height (node_height graph p.left) p.goal)) (advanced_by room graph p tasks state)
@@ -332,6 +337,14 @@ module _ (room : ℕ) (graph : FlowGraph) where
       let k = tested_few (is_constant f) f state in
       omega arith
   used_few left ToReturn forms (f ∷ stack) state = omega arith
+  used_few left ToHold forms (f ∷ stack) state =
+      let h = onward_few (tested f state) (only_where (Ends holding)) pick in
+      let k = tested_few (is_constant f) f state in
+      omega arith
+    where
+      pick : (test : Bool) (next : State) → length (only_where (Ends holding) test next) ≤ 1
+      pick true next = omega arith
+      pick false next = omega arith
 
   task_few : (p : Pending) (tasks : List Task) (state : State) → length (advanced_by room graph p tasks state) ≤ 3
   task_few p [] state = used_few p.left p.goal p.forms p.stack state
@@ -374,6 +387,7 @@ module _ (room : ℕ) (graph : FlowGraph) where
   goal_positive heights (ToSet x next) = omega arith
   goal_positive heights (ToBranch first second) = omega arith
   goal_positive heights ToReturn = omega arith
+  goal_positive heights ToHold = omega arith
 
   lower_weights : (n : ℕ) (v : Walk Move) → 0 < n → EachArrives (λ path. move_height graph path.value < n) v → length v ≤ 3 → weights graph v < four n
   lower_weights zero v some low few = absurd (omega arith)

@@ -10,6 +10,8 @@ pub mod Fitted
 pub mod Cases
 pub mod Conditions
 pub mod Samples
+pub mod Sizes
+pub mod Fitting
 pub mod Laws
 pub mod Onward
 pub mod Stepping
@@ -20,4 +22,5 @@ pub mod Waiting
 pub mod Joining
 pub mod Starting
 pub mod Beginning
+pub mod Holding
 pub mod Advancing

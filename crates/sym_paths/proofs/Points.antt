@@ -38,6 +38,9 @@ hold_longer point longer rows x hold = All-weaker (HoldsBefore point) (HoldsBefo
 pub holds_here : (point : List ℤ) (row : Row) → HoldsBefore point row → Holds point row
 holds_here point row holds = subst (λ (t : List ℤ). Holds t row) (append-nil point) (holds [])
 
+pub hold_here : (point : List ℤ) (rows : List Row) → All (HoldsBefore point) rows → All (Holds point) rows
+hold_here point rows hold = All-weaker (HoldsBefore point) (Holds point) (λ row. holds_here point row) rows hold
+
 pub extends_by : (point behind : List ℤ) → Extends point (point ++ behind)
 extends_by point behind = record { behind = behind; is = refl }
 

@@ -17,7 +17,7 @@ use Rattle.flow_graph.specs.FlowGraph.{FlowGraph, operation_at}
 use Rattle.sym_paths.specs.Walk.{State, Arrives, Stops, Walk, gives, onward, behind, arrival_behind, walk_behind}
 use Rattle.sym_paths.specs.Rows.{holds_alone, decided, joining, joined_tight, joined, all_joined, split, judged, made}
 use Rattle.sym_paths.specs.Symbolic.{nonzero_signs, zero_signs, negative_signs, not_positive_signs, positive_signs, not_negative_signs, tested_by, tested, negated_by, negated, Parts, parts, rows_from_zero, rows_below_zero, two_ways, with_column, unknown, divided_by, parted_by, parted, product_made, test_form, as_value, compared, unary_made, binary_made, quotient_made, rest_made}
-use Rattle.sym_paths.specs.Machine.{Task, Value, Unary, Binary, Quotient, Rest, Test, AndThen, OrElse, Choose, Todo, todo, done, by_test, step, Goal, ToSet, ToBranch, ToReturn, Pending, Goes, entered_by, entered, used, with_todo, advanced_by, advanced}
+use Rattle.sym_paths.specs.Machine.{Task, Value, Unary, Binary, Quotient, Rest, Test, AndThen, OrElse, Choose, Todo, todo, done, by_test, step, Goal, ToSet, ToBranch, ToReturn, ToHold, only_where, holding, Pending, Goes, Ends, entered_by, entered, used, with_todo, advanced_by, advanced}
 
 module _ (front : List Row) where
   append_behind : {A : Type 0} (v w : Walk A) → walk_behind front (v ++ w) ≡ walk_behind front v ++ walk_behind front w
@@ -222,6 +222,12 @@ module _ (front : List Row) where
         then_behind (tested f state) (tested f (behind front state)) (λ test. entered room graph left (cond test first second) forms)
         (tested_behind f state) (λ test next. entered_behind left (cond test first second) forms next)
     used_behind left ToReturn forms (f ∷ stack) state = refl
+    used_behind left ToHold forms (f ∷ stack) state =
+        then_behind (tested f state) (tested f (behind front state)) (only_where (Ends holding)) (tested_behind f state) pick
+      where
+        pick : (test : Bool) (next : State) → walk_behind front (only_where (Ends holding) test next) ≡ only_where (Ends holding) test (behind front next)
+        pick true next = refl
+        pick false next = refl
 
     task_behind : (p : Pending) (tasks : List Task) (state : State)
         → walk_behind front (advanced_by room graph p tasks state) ≡ advanced_by room graph p tasks (behind front state)

@@ -14,9 +14,9 @@ use Rattle.lin_terms.specs.Row.{Allows, Holds}
 use Rattle.lin_terms.specs.Sign.{HasSign, sign_row, tight_fitting}
 use Rattle.lin_terms.specs.Tight.{tight_of}
 use Rattle.lin_terms.proofs.Laws.{tight_keeps, sign_row-holds, value_at-constant, fitting_is_wanted}
-use Rattle.sym_paths.specs.Walk.{State, Walk}
+use Rattle.sym_paths.specs.Walk.{State}
 use Rattle.sym_paths.specs.Rows.{holds_alone, decided, joining, joined_tight, joined, all_joined, split, judged, made}
-use Rattle.sym_paths.specs.Points.{HasValue, HoldsBefore, IsPoint, IsWholePoint, EachArrives, SomeArrives, ReachedFrom, Splits}
+use Rattle.sym_paths.specs.Points.{HasValue, HoldsBefore, IsPoint, IsWholePoint, EachArrives, SomeArrives, ReachedFrom, Splits, Joins}
 use Rattle.sym_paths.proofs.Walks.{each_append, some_left, some_right, each_changed, some_changed, onward_each, onward_some, extends_itself, gives_splits, stops_splits}
 use Rattle.sym_paths.proofs.Points.{has_here}
 
@@ -46,12 +46,6 @@ alone_holds row point none =
     alone_allows row.equality row.constant (value_at (form_of_row row) point) (value_at-constant (form_of_row row) point none)
 
 -- ---- rows that join
-
--- What a walk owes that rows join and that arrives at a value then: `R` says that the rows hold at a point, `W` that they
--- hold whatever comes behind it.
-pub record Joins {A : Type 0} (state : State) (R W : List ℤ → Type 0) (value : A) (w : Walk A) : Type 0 where
-  pub sound : EachArrives (λ path. (point : List ℤ) → IsPoint point path.state → IsPoint point state × R point × (path.value ≡ value)) w
-  pub complete : (point : List ℤ) → IsWholePoint point state → W point → SomeArrives (λ path. IsWholePoint point path.state × (path.value ≡ value)) w
 
 some_is_some : {X : Type 0} {x : X} → Some x ≡ None → ⊥
 some_is_some is = subst (λ o. MatchOption o ⊥ (λ _. Unit {0})) is tt

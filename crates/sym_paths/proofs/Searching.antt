@@ -1,5 +1,5 @@
 -- The search over a list of cases under way is the walk.
-use Rattle.std.proofs.Common.{◌≡◌, ℕ, zero, suc, cond, List, [], ◌∷◌, ◌++◌, set, Option, Some, None, refl, sym, ◌∙◌, ap}
+use Rattle.std.proofs.Common.{◌≡◌, ℕ, zero, suc, Bool, true, false, cond, List, [], ◌∷◌, ◌++◌, set, Option, Some, None, refl, sym, ◌∙◌, ap}
 use Rattle.std.specs.Prelude.{pos}
 use Rattle.c_ast.specs.declared.place.Place.TheVariants as place
 use Rattle.c_ast.specs.Tree.{Expression}
@@ -11,13 +11,13 @@ use Rattle.flow_graph.specs.Run.{values_with}
 use Rattle.sym_paths.specs.Walk.{State, Arrives, Walk, gives, onward, more, collect}
 use Rattle.sym_paths.specs.Symbolic.{tested, symbolic}
 use Rattle.sym_paths.specs.Nodes.{End, end_at, operation_walk, walk_from}
-use Rattle.sym_paths.specs.Machine.{Task, Value, Todo, does, does_all, step, Goal, ToSet, ToBranch, ToReturn, Pending, Move, Goes, Ends, reached, resumed, resume, evaluating, entered_by, entered, used, with_todo, advanced_by, advanced}
+use Rattle.sym_paths.specs.Machine.{Task, Value, Todo, does, does_all, step, Goal, ToSet, ToBranch, ToReturn, ToHold, only_where, holding, Pending, Move, Goes, Ends, reached, resumed, resume, evaluating, entered_by, entered, used, with_todo, advanced_by, advanced}
 use Rattle.sym_paths.proofs.Onward.{onward_append, onward_one, onward_same, onward_gives, onward_assoc}
 use Rattle.sym_paths.proofs.Stepping.{does_todo, stepped}
 
 module _ (room : ℕ) (graph : FlowGraph) where
   -- an expression alone, then what it is for
-  evaluated : (e : Expression) (goal : Goal) (forms : List Form) (left : ℕ) (state : State)
+  pub evaluated : (e : Expression) (goal : Goal) (forms : List Form) (left : ℕ) (state : State)
       → resume room graph (evaluating room graph e goal forms left) state
       ≡ onward (symbolic room forms e state) (λ f next. reached room graph left goal forms (f ∷ []) next)
   evaluated e goal forms left state =
@@ -57,6 +57,13 @@ module _ (room : ℕ) (graph : FlowGraph) where
       (λ test next. from_node left (cond test first second) forms next)
       ∙ sym (onward_assoc (tested f state) (λ test. entered room graph left (cond test first second) forms) (resume room graph))
   goal_step left ToReturn forms (f ∷ stack) state = sym (onward_one (Ends (end_at place.Exit (f ∷ []))) state (resume room graph))
+  goal_step left ToHold forms (f ∷ stack) state =
+      onward_same (tested f state) (only_where holding) (λ test next. onward (only_where (Ends holding) test next) (resume room graph)) pick
+      ∙ sym (onward_assoc (tested f state) (only_where (Ends holding)) (resume room graph))
+    where
+      pick : (test : Bool) (next : State) → only_where holding test next ≡ onward (only_where (Ends holding) test next) (resume room graph)
+      pick true next = sym (onward_one (Ends holding) next (resume room graph))
+      pick false next = refl
 
   all_append : (forms : List Form) (tasks others : List Task) (stack : List Form) (state : State)
       → does_all room forms (tasks ++ others) stack state ≡ onward (does_all room forms tasks stack state) (does_all room forms others)

@@ -1,11 +1,11 @@
 -- The forms of the start, one variable after the other.
-use Rattle.std.proofs.Common.{◌≡◌, ℕ, suc, ◌+◌, ◌-◌, ◌<◌, ◌≤◌, Bool, true, false, ◌&&◌, ltb, List, [], ◌∷◌, ◌++◌, length, replicate, refl, sym, ap, ◌∙◌, true≢false, arith}
+use Rattle.std.proofs.Common.{◌≡◌, ℕ, suc, ◌+◌, ◌-◌, ◌<◌, ◌≤◌, Bool, true, false, ◌&&◌, ltb, List, [], ◌∷◌, ◌++◌, length, replicate, refl, sym, ap, ◌∙◌, append_assoc, true≢false, arith}
 use Rattle.std.specs.Prelude.{pos}
 use Rattle.std.proofs.lemmas.List.{length-replicate, length-set}
 use Rattle.std.proofs.lemmas.Bool.Decides.{nat_tests}
 use Rattle.c_ast.specs.Step.{is_in, spread_one, spread_from}
 use Rattle.lin_terms.specs.declared.form.Form.{Form}
-use Rattle.lin_terms.specs.Form.{constant_form}
+use Rattle.lin_terms.specs.Form.{constant_form, variable_form}
 use Rattle.sym_paths.specs.Cases.{variables_from, start_forms}
 use Rattle.sym_paths.specs.Arrivals.{HasRoom}
 use Rattle.sym_paths.specs.Starts.{begun, met_after}
@@ -64,3 +64,15 @@ after_within variables x met true is within = by (is_in variables x) is
     by true is = grind (arith, nat_tests)
     by false is = absurd (true≢false is)
 after_within variables x met false is within = within
+
+-- ---- the first variables alone
+
+-- one variable more
+pub variables_next : (room count x : ℕ) (forms : List Form) → x < count → forms ++ variables_from room x (count - x) ≡ variables_from room 0 count
+    → (forms ++ variable_form room x ∷ []) ++ variables_from room (x + 1) (count - (x + 1)) ≡ variables_from room 0 count
+variables_next room count x forms below all =
+    let one : x + 1 ≡ suc x = omega arith in
+    let left : count - x ≡ suc (count - suc x) = omega (arith, below) in
+    rw one (
+    append_assoc forms (variable_form room x ∷ []) (variables_from room (suc x) (count - suc x))
+    ∙ ap (λ (k : ℕ). forms ++ variables_from room x k) (sym left) ∙ all)

@@ -13,17 +13,19 @@ use Rattle.sym_paths.specs.declared.task.Task.TheVariants as task
 use Rattle.sym_paths.specs.declared.task.Goal as coded_goal
 use Rattle.sym_paths.specs.declared.task.Goal.TheVariants as goal
 use Rattle.sym_paths.specs.declared.task.Pending as coded_pending
+use Rattle.sym_paths.specs.declared.task.Subject.{Subject}
+use Rattle.sym_paths.specs.declared.task.Subject.TheVariants as subject
 use Rattle.sym_paths.specs.declared.task.Move as coded_move
 use Rattle.sym_paths.specs.declared.task.Move.TheVariants as move
 use Rattle.sym_paths.specs.declared.task.Entry.{Entry}
 use Rattle.sym_paths.specs.declared.task.Entry.TheVariants as entry
 use Rattle.c_ast.specs.View.{expression_of}
 use Rattle.c_ast.specs.Value.{CanEvaluate}
-use Rattle.flow_graph.specs.FlowGraph.{FlowGraph}
+use Rattle.flow_graph.specs.FlowGraph.{FlowGraph, flow_graph}
 use Rattle.c_ast.specs.declared.place.Place.{Place}
 use Rattle.sym_paths.specs.Walk.{State, Path, Arrival, Arrives, Stops}
 use Rattle.sym_paths.specs.Nodes.{End, end_at}
-use Rattle.sym_paths.specs.Machine.{Task, Value, Unary, Binary, Quotient, Rest, Test, AndThen, OrElse, Choose, Goal, ToSet, ToBranch, ToReturn, Pending, Move, Goes, Ends}
+use Rattle.sym_paths.specs.Machine.{Task, Value, Unary, Binary, Quotient, Rest, Test, AndThen, OrElse, Choose, Goal, ToSet, ToBranch, ToReturn, ToHold, Pending, Move, Goes, Ends}
 
 -- The state with no row of its own.
 abbrev pub fresh : ℕ → State
@@ -43,6 +45,11 @@ made_of (made.Stops why) = Stops why
 
 -- ---- cases under way
 
+-- The graph that is walked over. A condition's has its parameters and no node.
+abbrev pub graph_of : Subject → FlowGraph
+graph_of (subject.Graph graph) = graph.now
+graph_of (subject.Condition arity) = flow_graph arity arity [] 0 []
+
 -- The task.
 abbrev pub task_of : coded_task.Task → Task
 task_of (task.Value e) = Value (expression_of e.now)
@@ -55,11 +62,12 @@ task_of (task.AndThen e) = AndThen (expression_of e.now)
 task_of (task.OrElse e) = OrElse (expression_of e.now)
 task_of (task.Choose e f) = Choose (expression_of e.now) (expression_of f.now)
 
--- What the form of a node's expression is for.
+-- What the form of an expression is for.
 abbrev pub goal_of : coded_goal.Goal → Goal
 goal_of (goal.ToSet x next) = ToSet x next
 goal_of (goal.ToBranch first second) = ToBranch first second
 goal_of goal.ToReturn = ToReturn
+goal_of goal.ToHold = ToHold
 
 -- The case under way. The code has the next task and the topmost form last.
 abbrev pub pending_of : coded_pending.Pending → Pending
@@ -110,6 +118,7 @@ abbrev pub LeadsWithin : ℕ → Goal → Type 0
 LeadsWithin count (ToSet x next) = next < count
 LeadsWithin count (ToBranch first second) = (first < count) × (second < count)
 LeadsWithin count ToReturn = Unit {0}
+LeadsWithin count ToHold = Unit {0}
 
 -- A case under way has forms with a coefficient for each column, tasks that can be taken, and a goal within the graph.
 pub record IsUnderWay (room : ℕ) (graph : FlowGraph) (p : coded_pending.Pending) : Type 0 where

@@ -4,6 +4,7 @@ use Rattle.c_ast.specs.Tree.{Expression}
 use Rattle.lin_terms.specs.declared.row.Row.{Row}
 use Rattle.lin_terms.specs.Row.{Holds}
 use Rattle.sym_paths.specs.declared.limit.PathLimit.{PathLimit}
+use Rattle.sym_paths.specs.declared.case.Case.{Case}
 use Rattle.sym_paths.specs.Walk.{State, Path, Walk, gives, onward, collect}
 use Rattle.sym_paths.specs.Symbolic.{condition, symbolic}
 use Rattle.sym_paths.specs.Cases.{room_for, variables_from, start_state, fitted_row}
@@ -26,6 +27,11 @@ completed_rows path = map (fitted_row path.state.columns) path.state.rows
 abbrev pub rows_of_all : Result (List (Path (Unit {0}))) PathLimit → Result (List (List Row)) PathLimit
 rows_of_all (Ok paths) = Ok (map completed_rows paths)
 rows_of_all (Err limit) = Err limit
+
+-- The rows alone of complete cases, where there is no limit.
+abbrev pub rows_alone : Result (List Case) PathLimit → Result (List (List Row)) PathLimit
+rows_alone (Ok cases) = Ok (map (λ case. case.rows) cases)
+rows_alone (Err limit) = Err limit
 
 -- The cases in which the condition holds, at most 1,024, or the first limit that the walk meets.
 abbrev pub condition_cases : ℕ → Expression → Result (List (List Row)) PathLimit

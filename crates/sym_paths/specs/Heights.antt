@@ -4,7 +4,7 @@ use Rattle.c_ast.specs.Tree.{Expression, Num, Var, Un, Bin, Cond}
 use Rattle.flow_graph.specs.Operation.{Operation, Set, Branch, Mark, Return}
 use Rattle.flow_graph.specs.FlowGraph.{FlowGraph, operation_at}
 use Rattle.sym_paths.specs.Walk.{Arrival, Arrives, Stops, Walk}
-use Rattle.sym_paths.specs.Machine.{Task, Value, Unary, Binary, Quotient, Rest, Test, AndThen, OrElse, Choose, Goal, ToSet, ToBranch, ToReturn, Pending, Move, Goes, Ends}
+use Rattle.sym_paths.specs.Machine.{Task, Value, Unary, Binary, Quotient, Rest, Test, AndThen, OrElse, Choose, Goal, ToSet, ToBranch, ToReturn, ToHold, Pending, Move, Goes, Ends}
 
 -- More than the heights of what an expression's first step leaves.
 abbrev pub expression_height : Expression → ℕ
@@ -36,6 +36,7 @@ abbrev pub goal_height : (ℕ → ℕ) → Goal → ℕ
 goal_height heights (ToSet x next) = 1 + heights next
 goal_height heights (ToBranch first second) = 1 + heights first + heights second
 goal_height heights ToReturn = 1
+goal_height heights ToHold = 1
 
 -- The height of a node's operation.
 abbrev pub operation_height : (ℕ → ℕ) → Option Operation → ℕ

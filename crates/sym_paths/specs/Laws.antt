@@ -1,5 +1,5 @@
 -- Laws of walks and cases. Each is a clause of a call that does nothing.
-use Rattle.std.specs.Prelude.{◌≡◌, ◌↔◌, ℕ, ◌<◌, ℤ, List, ◌∷◌, ◌++◌, length, Ok}
+use Rattle.std.specs.Prelude.{◌≡◌, ◌↔◌, ℕ, ◌+◌, ◌<◌, ◌≤◌, ℤ, List, ◌∷◌, ◌++◌, length, map, drop, All, Ok}
 use Rattle.c_ast.specs.declared.place.Place.{Place}
 use Rattle.c_ast.specs.Tree.{Expression}
 use Rattle.c_ast.specs.Value.{eval, CanEvaluate}
@@ -15,8 +15,10 @@ use Rattle.sym_paths.specs.Nodes.{walk_from}
 use Rattle.sym_paths.specs.Machine.{Pending, Move, Goes, resume, entered, advanced}
 use Rattle.sym_paths.specs.Heights.{weights}
 use Rattle.sym_paths.specs.Symbolic.{symbolic}
-use Rattle.sym_paths.specs.Points.{HasValue, HaveValues, SomeOf, Splits}
-use Rattle.sym_paths.specs.Cases.{cases_of, LeadsTo}
+use Rattle.lin_terms.specs.Form.{value_at}
+use Rattle.lin_terms.specs.Row.{Holds}
+use Rattle.sym_paths.specs.Points.{HasValue, HaveValues, HoldsBefore, Extends, SomeOf, Splits}
+use Rattle.sym_paths.specs.Cases.{variables_from, cases_of, LeadsTo}
 use Rattle.sym_paths.specs.Condition.{condition_cases, HoldAt}
 
 -- Where the variables' forms have the values of an environment, the walk of an expression splits the points of each
@@ -39,6 +41,32 @@ abbrev pub LawOfConditions : Type 0
 LawOfConditions = (arity : ℕ) (condition : Expression) → CanEvaluate arity condition → (cases : List (List Row))
     → condition_cases arity condition ≡ Ok cases
     → (inputs : List ℤ) → length inputs ≡ arity → Meets condition inputs ↔ SomeOf (HoldAt inputs) cases
+
+-- ---- points
+
+-- At a longer point forms keep their values.
+abbrev pub ValuesStay : Type 0
+ValuesStay = (point longer : List ℤ) (forms : List Form) (values : List ℤ) → Extends point longer
+    → HaveValues point forms values → HaveValues longer forms values
+
+-- Forms that have values at a point, whatever comes behind it, have them there.
+abbrev pub ValuesAreThose : Type 0
+ValuesAreThose = (point : List ℤ) (forms : List Form) (values : List ℤ) → HaveValues point forms values
+    → map (λ form. value_at form point) forms ≡ values
+
+-- At a longer point rows hold still.
+abbrev pub RowsStay : Type 0
+RowsStay = (point longer : List ℤ) (rows : List Row) → Extends point longer
+    → All (HoldsBefore point) rows → All (HoldsBefore longer) rows
+
+-- Rows that hold at a point, whatever comes behind it, hold there.
+abbrev pub RowsHoldThere : Type 0
+RowsHoldThere = (point : List ℤ) (rows : List Row) → All (HoldsBefore point) rows → All (Holds point) rows
+
+-- The forms of variables, from the j-th on, have the numbers there, from the j-th on.
+abbrev pub VariablesHaveValues : Type 0
+VariablesHaveValues = (room j n : ℕ) (values : List ℤ) → j + n ≡ length values → length values ≤ room
+    → HaveValues values (variables_from room j n) (drop j values)
 
 -- ---- the walk in single steps
 

@@ -10,4 +10,5 @@ pub mod Starts
 pub mod Points
 pub mod Cases
 pub mod Condition
+pub mod Fits
 pub mod Laws

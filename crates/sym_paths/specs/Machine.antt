@@ -1,6 +1,6 @@
 -- The walk in single steps: what is left of an expression is a list of tasks over a stack of forms, and the search is a
 -- list of cases under way, of which the first takes its next step.
-use Rattle.std.specs.Prelude.{ℕ, zero, suc, ℤ, pos, true, false, if◌then◌else◌, List, [], ◌∷◌, ◌++◌, slice_index_or, slice_set, Option, Some, None}
+use Rattle.std.specs.Prelude.{ℕ, zero, suc, ℤ, pos, Bool, true, false, if◌then◌else◌, List, [], ◌∷◌, ◌++◌, slice_index_or, slice_set, Option, Some, None}
 use Rattle.c_ast.specs.declared.place.Place.TheVariants as place
 use Rattle.c_ast.specs.declared.expr.UnOp.{UnOp}
 use Rattle.c_ast.specs.declared.expr.BinOp.{BinOp}
@@ -108,13 +108,23 @@ module _ (room : ℕ) (forms : List Form) where
   step (Choose e g) (f ∷ stack) state = by_test f state (todo (Value e ∷ []) stack) (todo (Value g ∷ []) stack)
   step _ stack state = []
 
--- What is done with the form of a node's expression.
+-- What is done with the form of an expression: of a node's, or of a condition on its own.
 pub data Goal : Type 0 where
   ToSet : ℕ → ℕ → Goal
   ToBranch : ℕ → ℕ → Goal
   ToReturn : Goal
+  ToHold : Goal
 
--- A case under way: what is left of the node's expression, what it is for, the variables' forms, and how many nodes may
+-- The walk arrives at the value where a test is true, and nowhere where it is false.
+abbrev pub only_where : {A : Type 0} → A → Bool → State → Walk A
+only_where value true state = gives value state
+only_where value false state = []
+
+-- The end of a condition that holds: it has no values.
+abbrev pub holding : End
+holding = end_at place.Exit []
+
+-- A case under way: what is left of the expression, what it is for, the variables' forms, and how many nodes may
 -- still come.
 pub record Pending : Type 0 where
   pub tasks : List Task
@@ -136,6 +146,7 @@ module _ (room : ℕ) (graph : FlowGraph) where
   reached left (ToBranch first second) forms (f ∷ stack) state =
       onward (tested f state) (λ test. walk_from room graph left (if test then first else second) forms)
   reached left ToReturn forms (f ∷ stack) state = gives (end_at place.Exit (f ∷ [])) state
+  reached left ToHold forms (f ∷ stack) state = onward (tested f state) (only_where holding)
 
   -- What the walk does from a case under way.
   abbrev pub resumed : Pending → State → Walk End
@@ -146,7 +157,7 @@ module _ (room : ℕ) (graph : FlowGraph) where
   resume (Goes p) state = resumed p state
   resume (Ends end) state = gives end state
 
-  -- A node's expression is begun.
+  -- An expression is begun.
   abbrev pub evaluating : Expression → Goal → List Form → ℕ → Move
   evaluating e goal forms left =
       Goes (record { tasks = Value e ∷ []; stack = []; goal = goal; forms = forms; left = left })
@@ -167,13 +178,14 @@ module _ (room : ℕ) (graph : FlowGraph) where
   entered zero node forms state = []
   entered (suc left) node forms state = entered_by left (operation_at graph node) forms state
 
-  -- The form of a node's expression is used.
+  -- The form of an expression is used.
   abbrev pub used : ℕ → Goal → List Form → List Form → State → Walk Move
   used left goal forms [] state = []
   used left (ToSet x next) forms (f ∷ stack) state = entered left next (slice_set forms x f) state
   used left (ToBranch first second) forms (f ∷ stack) state =
       onward (tested f state) (λ test. entered left (if test then first else second) forms)
   used left ToReturn forms (f ∷ stack) state = gives (Ends (end_at place.Exit (f ∷ []))) state
+  used left ToHold forms (f ∷ stack) state = onward (tested f state) (only_where (Ends holding))
 
   -- The case with other tasks and another stack.
   abbrev pub with_todo : Pending → List Task → Todo → Pending

@@ -73,3 +73,11 @@ pub record Splits {A : Type 0} (state : State) (P : List ℤ → Type 0) (G : Li
   pub sound : EachArrives (λ path. (point : List ℤ) → IsPoint point path.state
       → IsPoint point state × (P point → G point path.value)) walk
   pub complete : (point : List ℤ) → IsWholePoint point state → P point → SomeArrives (ReachedFrom point G) walk
+
+-- What a walk owes that rows join, and that arrives at a value then: `R` says that the rows hold at a point, and `W`
+-- that they hold whatever comes behind it.
+pub record Joins {A : Type 0} (state : State) (R W : List ℤ → Type 0) (value : A) (walk : Walk A) : Type 0 where
+  pub sound : EachArrives (λ path. (point : List ℤ) → IsPoint point path.state
+      → IsPoint point state × R point × (path.value ≡ value)) walk
+  pub complete : (point : List ℤ) → IsWholePoint point state → W point
+      → SomeArrives (λ path. IsWholePoint point path.state × (path.value ≡ value)) walk

@@ -39,7 +39,7 @@ behind_made made (Ok cases) = Ok (made ++ cases)
 behind_made made (Err why) = Err why
 
 -- The limit is the wanted one, unless memory ran out.
-abbrev pub IsLimit : Result (List Case) PathLimit → PathLimit → Type 0
+abbrev pub IsLimit : {A : Type 0} → Result A PathLimit → PathLimit → Type 0
 IsLimit wanted limit.Memory = Unit {0}
 IsLimit wanted why = wanted ≡ Err why
 

@@ -1,19 +1,20 @@
-//! The search for the cases of a segment: a list of moves, of which the last is the next.
+//! The search for the cases of a segment or of a condition: a list of moves, of which the last is
+//! the next.
 //!
 //! All moves share one list of rows. Each knows how many rows of it stand in front of its own, and
 //! no move keeps more than one that is taken before it: what is behind is dropped as it is taken.
 ghost use Rattle.std.specs.Prelude.{◌≡◌, ◌<◌, ◌≤◌, ◌^◌, ◌++◌, ◌∷◌, [], All, take, reverse, map, length, Ok, IfOk, IfErr, OnOk};
 ghost use Rattle.sym_paths.specs.Cases.{completed};
-ghost use Rattle.sym_paths.specs.Arrivals.{fresh, path_of, pending_of, entry_of, IsUnderWay, EntryIsSound};
+ghost use Rattle.sym_paths.specs.Arrivals.{fresh, path_of, pending_of, entry_of};
+ghost use Rattle.sym_paths.specs.Arrivals.{IsUnderWay, EntryIsSound, graph_of};
 ghost use Rattle.sym_paths.specs.Waiting.{waiting, IsLimit, IsOneTooMany, searched_from, CanGoOn, GoesOn, Comes};
 
 use crate::PathLimit;
 use crate::advance::advanced;
 use crate::case::{Case, completed};
 use crate::limit::MOST_CASES;
-use crate::task::{Entry, Move, Pending};
+use crate::task::{Entry, Move, Pending, Subject};
 use c_ast::Place;
-use flow_graph::Graph;
 use lin_terms::{Form, Row};
 use sqlite_items::Items;
 use std::alloc::{AllocError, Global};
@@ -91,18 +92,18 @@ fn end(
 fn go<'a>(
     alloc: Global,
     room: usize,
-    graph: &'a Graph,
+    subject: Subject<'a>,
     count: usize,
     pending: Pending<'a>,
     columns: u32,
     work: &mut Vec<Waiting<'a>>,
 ) -> Result<(), AllocError>
-    requires sound { IsUnderWay room graph.now pending }
+    requires sound { IsUnderWay room (graph_of subject) pending }
     requires few { room < 2 ^ 32 }
-    ensures { OnOk result (Comes room graph.now count (pending_of pending.entry) columns
-        (reverse work.old.items) (reverse work.new.items)) }
+    ensures { OnOk result (Comes room (graph_of subject.entry) count (pending_of pending.entry)
+        columns (reverse work.old.items) (reverse work.new.items)) }
 {
-    let moves = advanced(alloc, room, graph, pending, columns)?;
+    let moves = advanced(alloc, room, subject, pending, columns)?;
     wait(work, count, moves)
 }
 
@@ -110,18 +111,19 @@ fn go<'a>(
 fn step<'a>(
     alloc: Global,
     room: usize,
-    graph: &'a Graph,
+    subject: Subject<'a>,
     rows: &mut Items<Row>,
     work: &mut Vec<Waiting<'a>>,
     cases: &mut Vec<Case>,
     next: Waiting<'a>,
 ) -> Result<(), PathLimit>
-    requires can { CanGoOn room graph.now rows.old (next ∷ reverse work.old.items) cases.old.items }
+    requires can { CanGoOn room (graph_of subject) rows.old (next ∷ reverse work.old.items)
+        cases.old.items }
     requires few { room < 2 ^ 32 }
-    ensures goes { OnOk result (GoesOn room graph.now rows.old rows.new
+    ensures goes { OnOk result (GoesOn room (graph_of subject.entry) rows.old rows.new
         (next.entry ∷ reverse work.old.items) (reverse work.new.items)
         cases.old.items cases.new.items) }
-    ensures limit { IfErr result (IsLimit (searched_from room graph.now rows.old
+    ensures limit { IfErr result (IsLimit (searched_from room (graph_of subject.entry) rows.old
         (next.entry ∷ reverse work.old.items) cases.old.items)) }
 {
     let Waiting { kept, entry } = next;
@@ -139,7 +141,7 @@ fn step<'a>(
                 }
                 Move::Goes(pending) => {
                     let count = rows.len();
-                    Ok(go(alloc, room, graph, count, pending, columns, work)?)
+                    Ok(go(alloc, room, subject, count, pending, columns, work)?)
                 }
             }
         }
@@ -150,20 +152,21 @@ fn step<'a>(
 pub(crate) fn search<'a>(
     alloc: Global,
     room: usize,
-    graph: &'a Graph,
+    subject: Subject<'a>,
     mut work: Vec<Waiting<'a>>,
 ) -> Result<Vec<Case>, PathLimit>
-    requires can { CanGoOn room graph.now [] (reverse work.items) [] }
+    requires can { CanGoOn room (graph_of subject) [] (reverse work.items) [] }
     requires few { room < 2 ^ 32 }
     ensures cases { IfOk result (λ cases.
-        searched_from room graph.now [] (reverse work.entry.items) [] ≡ Ok cases.items) }
+        searched_from room (graph_of subject.entry) [] (reverse work.entry.items) []
+        ≡ Ok cases.items) }
     ensures limit { IfErr result (IsLimit
-        (searched_from room graph.now [] (reverse work.entry.items) [])) }
+        (searched_from room (graph_of subject.entry) [] (reverse work.entry.items) [])) }
 {
     let mut rows = Items::new(alloc);
     let mut cases = Vec::new(alloc);
     while let Some(next) = work.pop() {
-        step(alloc, room, graph, &mut rows, &mut work, &mut cases, next)?;
+        step(alloc, room, subject, &mut rows, &mut work, &mut cases, next)?;
     }
     Ok(cases)
 }

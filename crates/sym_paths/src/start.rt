@@ -1,24 +1,13 @@
 //! The forms with which a walk begins.
-ghost use Rattle.std.specs.Prelude.{◌≡◌, ◌<◌, ◌≤◌, ◌^◌, ◌&&◌, nat_lt, true, All, length, pos, IfOk};
-ghost use Rattle.lin_terms.specs.Form.{constant_form};
+ghost use Rattle.std.specs.Prelude.{◌≡◌, ◌<◌, ◌≤◌, ◌^◌, ◌&&◌, nat_lt, true, All, length, IfOk};
 ghost use Rattle.c_ast.specs.Step.{is_in};
-ghost use Rattle.sym_paths.specs.Cases.{start_forms};
+ghost use Rattle.sym_paths.specs.Cases.{start_forms, variables_from};
 ghost use Rattle.sym_paths.specs.Starts.{begun, met_after};
 ghost use Rattle.sym_paths.specs.Arrivals.{HasRoom};
 
+use crate::forms::number;
 use lin_terms::{Form, variable_form};
-use sqlite_items::Items;
 use std::alloc::{AllocError, Global};
-
-/// The form 0, over so many columns.
-fn zero_form(alloc: Global, room: usize) -> Result<Form, AllocError>
-    ensures { IfOk result (λ form. form ≡ constant_form room (pos 0)) }
-{
-    Ok(Form {
-        coefs: Items::from_vec(vec![in alloc; 0; room]?),
-        constant: 0,
-    })
-}
 
 fn is_in(variables: &[u32], x: u32) -> bool
     ensures { result ≡ is_in variables.now x }
@@ -46,7 +35,7 @@ fn begun(alloc: Global, room: usize, is_next: bool, met: usize) -> Result<Form, 
     if is_next {
         variable_form(alloc, room, met)
     } else {
-        zero_form(alloc, room)
+        number(alloc, room, &0)
     }
 }
 
@@ -56,6 +45,21 @@ fn met_after(is_next: bool, met: usize) -> usize
     ensures { result ≡ met_after is_next met }
 {
     if is_next { met + 1 } else { met }
+}
+
+/// The first variables, so many, each as a form of itself.
+pub(crate) fn variables(alloc: Global, room: usize, count: u32) -> Result<Vec<Form>, AllocError>
+    requires room { count ≤ room }
+    requires few { room < 2 ^ 32 }
+    ensures forms { IfOk result (λ forms. forms.items ≡ variables_from room 0 count) }
+    ensures room { IfOk result (λ forms. All (HasRoom room) forms.items) }
+{
+    let mut forms = Vec::new(alloc);
+    for number in 0..count {
+        let form = variable_form(alloc, room, number as usize)?;
+        forms.push(form)?;
+    }
+    Ok(forms)
 }
 
 /// Each variable in scope at the start, by rising number, as a form of itself, and each other

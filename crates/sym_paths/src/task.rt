@@ -1,6 +1,7 @@
 //! A case under way, and what is done next of it.
 use crate::PathLimit;
 use c_ast::{BinOp, Expr, Place, UnOp};
+use flow_graph::Graph;
 use lin_terms::{Form, Row};
 use sqlite_items::Items;
 
@@ -28,7 +29,16 @@ pub enum Task<'a> {
     Choose(&'a Expr, &'a Expr),
 }
 
-/// What is done with the form of a node's expression.
+/// What is walked over.
+#[derive(Clone, Copy, Debug, Drop)]
+pub enum Subject<'a> {
+    /// The nodes of a graph.
+    Graph(&'a Graph),
+    /// No node: a condition over so many parameters.
+    Condition(u32),
+}
+
+/// What is done with the form of an expression.
 #[derive(Clone, Copy, Debug, Drop)]
 pub enum Goal {
     /// The variable takes it, and the walk goes on at the node.
@@ -37,6 +47,8 @@ pub enum Goal {
     ToBranch { first: u32, second: u32 },
     /// It is returned.
     ToReturn,
+    /// The case is complete where it is not 0, and there is none where it is 0.
+    ToHold,
 }
 
 /// A case under way.

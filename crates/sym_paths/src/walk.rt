@@ -8,11 +8,12 @@ ghost use Rattle.sym_paths.specs.Cases.{room_for, cases_of, LeadsTo};
 ghost use Rattle.sym_paths.specs.Waiting.{IsLimit, CanGoOn, searched_from};
 
 use crate::PathLimit;
-use crate::advance::entered;
 use crate::case::Case;
 use crate::limit::MOST_UNKNOWNS;
+use crate::node::entered;
 use crate::search::{Waiting, search, wait};
 use crate::start::start_forms;
+use crate::task::Subject;
 use c_ast::Place;
 use flow_graph::Graph;
 use std::alloc::{AllocError, Global};
@@ -38,7 +39,8 @@ fn begun<'a>(
     let left = graph.len() as usize + 1;
     let node = graph.after(place);
     let columns = graph.width_at(place);
-    let moves = entered(alloc, room, graph, left, node, forms, columns)?;
+    let subject = Subject::Graph(graph);
+    let moves = entered(alloc, room, subject, left, node, forms, columns)?;
     let mut work = Vec::new(alloc);
     wait(&mut work, 0, moves)?;
     Ok(work)
@@ -65,5 +67,5 @@ pub fn segments(alloc: Global, graph: &Graph, place: Place) -> Result<Vec<Case>,
     let variables = graph.vars_at(alloc, place)?;
     let room = variables.len() + MOST_UNKNOWNS;
     let work = begun(alloc, room, graph, place, variables.as_slice())?;
-    search(alloc, room, graph, work)
+    search(alloc, room, Subject::Graph(graph), work)
 }

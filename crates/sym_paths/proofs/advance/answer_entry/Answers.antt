@@ -1,4 +1,0 @@
-use Rattle.sym_paths.proofs.advance.answer_entry.Goals as goal
-
-pub returns-in_ok-rows-in-Given-clause-sound : goal.returns-in_ok-rows-in-Given-clause-sound
-returns-in_ok-rows-in-Given-clause-sound c room graph = c.in_ok-next-in-Given.ensures.sound room graph

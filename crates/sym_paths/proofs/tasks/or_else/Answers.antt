@@ -1,0 +1,31 @@
+use Rattle.std.proofs.Common.{refl, true, map, ap, ◌∙◌, [], ◌∷◌}
+use Rattle.c_ast.specs.View.{expression_of}
+use Rattle.lin_terms.specs.declared.form.Form.{Form}
+use Rattle.sym_paths.specs.Symbolic.{test_form}
+use Rattle.sym_paths.specs.Machine.{Value, Test, OrElse, Pending, todo}
+use Rattle.sym_paths.specs.Arrivals.{fresh, answer_of, entry_of, pending_of}
+use Rattle.sym_paths.proofs.Advancing.{case_of, task_then, test_advanced}
+use Rattle.sym_paths.proofs.tasks.or_else.Goals as goal
+
+pub returns-in_ok-moves-in-Some-clause-moves : goal.returns-in_ok-moves-in-Some-clause-moves
+returns-in_ok-moves-in-Some-clause-moves c graph =
+    let q = pending_of c.in-Some.pending in
+    test_advanced c.args.room graph (pending_of c.args.pending) q (pending_of c.in_ok-first-in-Some.first)
+    (pending_of c.in_ok-second-in-Some.second) c.in-Some.form (OrElse (expression_of c.args.expr.now)) (fresh c.args.columns)
+    (todo [] (test_form c.args.room true ∷ q.stack)) (todo (Value (expression_of c.args.expr.now) ∷ Test ∷ []) q.stack)
+    (map (answer_of c.args.columns) c.in_ok-tests-in-Some.tests.items) (map entry_of c.in_ok-moves-in-Some.moves.items)
+    (c.in-Some.ensures.case c.args.room graph) refl (c.in_ok-tests-in-Some.ensures c.args.columns)
+    (c.in_ok-first-in-Some.ensures.case c.args.room graph
+    ∙ ap (λ (p : Pending). case_of c.args.room graph p (todo [] (c.in_ok-test_form-in-Some.field-0 ∷ p.stack))) c.in_ok-copied-in-Some.ensures.same
+    ∙ ap (λ (f : Form). case_of c.args.room graph q (todo [] (f ∷ q.stack))) c.in_ok-test_form-in-Some.ensures.form)
+    (task_then c.args.room graph q (pending_of c.in_ok-behind-in-Some.behind) (pending_of c.in_ok-second-in-Some.second) (Value (expression_of c.args.expr.now))
+    (Test ∷ []) q.stack (c.in_ok-behind-in-Some.ensures.case c.args.room graph) (c.in_ok-second-in-Some.ensures.case c.args.room graph))
+    c.in_ok-moves-in-Some.ensures.moves
+
+pub returns-in_ok-moves-in-Some-clause-sound : goal.returns-in_ok-moves-in-Some-clause-sound
+returns-in_ok-moves-in-Some-clause-sound c graph under can =
+    let sound = c.in-Some.ensures.sound c.args.room graph under in
+    c.in_ok-moves-in-Some.ensures.sound c.args.room graph
+    (c.in_ok-first-in-Some.ensures.sound c.args.room graph (c.in_ok-copied-in-Some.ensures.sound c.args.room graph sound)
+    c.in_ok-test_form-in-Some.ensures.room)
+    (c.in_ok-second-in-Some.ensures.sound c.args.room graph (c.in_ok-behind-in-Some.ensures.sound c.args.room graph sound tt) can)
