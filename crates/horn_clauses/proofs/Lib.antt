@@ -1,4 +1,7 @@
 pub mod Nodes
 pub mod Values
+pub mod Negated
+pub mod Shapes
+pub mod Refuted
 pub mod Laws
 pub mod Samples
