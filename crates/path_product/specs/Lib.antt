@@ -1,0 +1,14 @@
+pub mod Starts
+pub mod Fits
+pub mod Compose
+pub mod Sides
+pub mod Coded
+pub mod Refusals
+pub mod Clauses
+pub mod Placing
+pub mod Making
+pub mod Product
+pub mod Queue
+pub mod Graphs
+pub mod Agreement
+pub mod Laws
