@@ -2,3 +2,4 @@
 -- the same of anything that is said at nodes, which no clause can state.
 pub use Rattle.relation.proofs.Following.{invariants_force, law_of_invariants}
 pub use Rattle.relation.proofs.Couplings.{couplings_force, couples_under_each}
+pub use Rattle.relation.proofs.Families.{soundness_of_products, refutable_is_refuted, linear_families_couple}

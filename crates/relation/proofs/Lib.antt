@@ -1,7 +1,9 @@
 pub mod Moving
 pub mod Following
 pub mod Couplings
+pub mod Families
 pub mod Laws
 pub mod Samples
+pub mod LinearSamples
 pub mod LoopSamples
 pub mod EndingSamples

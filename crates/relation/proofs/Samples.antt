@@ -62,7 +62,7 @@ copying : Program
 copying = record { params = 1; vars = 2; body = Set 1 (Num (pos 0)) (Set 1 (Var 0) (Return (Var 1) Nil)) }
 
 -- the parameters are equal at the entries, and the results at the exits
-equal : Family
+unfoldable pub equal : Family
 equal = record {
   nodes = (node place.Entry place.Entry, equal_parameters 1) ∷ (node place.Exit place.Exit, equal_results ∷ []) ∷ [];
 }

@@ -1,6 +1,8 @@
 //! Laws of the definitions alone. Each is the contract of a call that does nothing.
 ghost use Rattle.relation.specs.Invariants.{LawOfInvariants};
 ghost use Rattle.relation.specs.Coupling.{LawOfCouplings, CouplesUnderEach};
+ghost use Rattle.relation.specs.Linear.{SoundnessOfProducts, RefutableIsRefuted};
+ghost use Rattle.relation.specs.Linear.{LinearFamiliesCouple};
 
 /// What is said at the entries, kept by the moves of both functions, and forces equal results at
 /// the exits, shows that no inputs that meet the condition make the two return differently.
@@ -13,4 +15,12 @@ pub fn law_of_invariants()
 pub fn law_of_couplings()
     ensures couplings { LawOfCouplings }
     ensures each { CouplesUnderEach }
+{}
+
+/// A family over the product of the graphs of two functions is a coupling of these where no whole
+/// numbers meet any of its obligations, and so where multipliers refute each of them.
+pub fn law_of_linear_families()
+    ensures sound { SoundnessOfProducts }
+    ensures refuted { RefutableIsRefuted }
+    ensures linear { LinearFamiliesCouple }
 {}
