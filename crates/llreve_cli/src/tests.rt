@@ -1,6 +1,7 @@
 //! The whole command over files and sinks in memory. A row's right side is the status, and what
 //! both sinks hold.
 mod paths;
+mod products;
 mod random;
 mod refused;
 mod results;

@@ -1,11 +1,12 @@
-//! The cases of the segments between places, worked out by hand.
+//! The cases of the segments between places, and of conditions, worked out by hand.
 use super::runs::function;
 use c_ast::Place;
 use flow_graph::{Graph, build};
 use lin_terms::{Form, Row};
+use sqlite_items::Items;
 use std::alloc::{AllocError, Global};
 use std::test::Fail;
-use sym_paths::{Case, PathLimit, segments};
+use sym_paths::{Case, PathLimit, condition_cases, segments};
 
 fn put_numbers(out: &mut String, numbers: &[i64], last: i64) -> Result<(), AllocError> {
     for number in numbers {
@@ -14,12 +15,12 @@ fn put_numbers(out: &mut String, numbers: &[i64], last: i64) -> Result<(), Alloc
     write!(out, "{last}")
 }
 
-fn put_row(out: &mut String, row: &Row) -> Result<(), AllocError> {
+pub(super) fn put_row(out: &mut String, row: &Row) -> Result<(), AllocError> {
     put_numbers(out, row.coefs.as_slice(), row.constant)?;
     out.push_str(if row.equality { " = 0; " } else { " >= 0; " })
 }
 
-fn put_form(out: &mut String, form: &Form) -> Result<(), AllocError> {
+pub(super) fn put_form(out: &mut String, form: &Form) -> Result<(), AllocError> {
     out.push_str(" ")?;
     put_numbers(out, form.coefs.as_slice(), form.constant)?;
     out.push_str(",")
@@ -224,5 +225,112 @@ fn there_are_1024_cases_at_most(rt: HostRuntime) -> Result<(), Fail> {
         counted(rt.alloc(), more.as_str())?,
         Err(PathLimit::ManyPaths)
     );
+    Ok(())
+}
+
+/// The cases of the condition that the text's function returns.
+fn condition(alloc: Global, text: &str) -> Result<Result<Vec<Items<Row>>, PathLimit>, Fail> {
+    let func = function(alloc, text)?;
+    let arity = func.params();
+    match func.returned() {
+        Some(expr) if arity <= 64 => Ok(condition_cases(alloc, expr, arity)),
+        _ => Err("no condition".into()),
+    }
+}
+
+/// The rows of each case, or the limit.
+fn put_condition(
+    out: &mut String,
+    cases: &Result<Vec<Items<Row>>, PathLimit>,
+) -> Result<(), AllocError> {
+    match cases {
+        Ok(cases) => {
+            for rows in cases {
+                for row in rows.as_slice() {
+                    put_row(out, row)?;
+                }
+                out.push_str("holds\n")?;
+            }
+            Ok(())
+        }
+        Err(limit) => write!(out, "{limit:?}\n"),
+    }
+}
+
+/// Conditions, each as a function that returns it, and their cases.
+#[rattlefmt::skip]
+const CONDITIONS: [(&str, &str); 17] = [
+    // What is constant is decided.
+    ("int f(int a){return 1;}", "holds\n"),
+    ("int f(int a){return 3 - 5;}", "holds\n"),
+    ("int f(int a){return 0;}", ""),
+    ("int f(int a){return a - a;}", ""),
+    // A variable, and what is no test.
+    ("int f(int a){return a;}", "-1 -1 >= 0; holds\n1 -1 >= 0; holds\n"),
+    ("int f(int a,int b){return 2*a - 4*b + 2;}",
+        "-1 2 -2 >= 0; holds\n1 -2 0 >= 0; holds\n"),
+    ("int f(int a){return a != 0;}", "-1 -1 >= 0; holds\n1 -1 >= 0; holds\n"),
+    ("int f(int a,int b){return a > 0 && b == 2;}", "1 0 -1 >= 0; 0 1 -2 = 0; holds\n"),
+    (
+        "int f(int a,int b){return a > 0 || b == 2;}",
+        "1 0 -1 >= 0; holds\n-1 0 0 >= 0; 0 1 -2 = 0; holds\n",
+    ),
+    ("int f(int a,int b){return !(a <= b) ? b < 0 : 0;}", "1 -1 -1 >= 0; 0 -1 -1 >= 0; holds\n"),
+    // No whole number is half of 1.
+    ("int f(int a){return 2*a == 1;}", ""),
+    // A quotient is an unknown, and the case of a dividend below 0 stays.
+    (
+        "int f(int a){return a/2 == 3;}",
+        "1 0 0 >= 0; 1 -2 0 >= 0; -1 2 1 >= 0; 0 1 -3 = 0; holds\n\
+        -1 0 -1 >= 0; -1 2 0 >= 0; 1 -2 1 >= 0; 0 1 -3 = 0; holds\n",
+    ),
+    // The first limit that the walk meets.
+    ("int f(int a){return a*a > 3;}", "NonLinear\n"),
+    ("int f(int a){return a > 0 && a*1125899906842624 > 0 || a*a > 3;}", "WideForm\n"),
+    ("int f(int a){return a <= 0 && a*a > 3;}", "NonLinear\n"),
+    (
+        "int f(int a){return a/2+a/2+a/2+a/2+a/2+a/2+a/2+a/2+a/2+a/2+a/2+a/2+a/2+a/2+a/2+a/2+a/2;}",
+        "ManyUnknowns\n",
+    ),
+    // Of 2,048 ways only those count on which it holds.
+    (
+        "int f(int a,int b){return \
+        (a<b)+(a<b)+(a<b)+(a<b)+(a<b)+(a<b)+(a<b)+(a<b)+(a<b)+(a<b)+(a<b)==11;}",
+        "-1 1 -1 >= 0; -1 1 -1 >= 0; -1 1 -1 >= 0; -1 1 -1 >= 0; -1 1 -1 >= 0; -1 1 -1 >= 0; \
+        -1 1 -1 >= 0; -1 1 -1 >= 0; -1 1 -1 >= 0; -1 1 -1 >= 0; -1 1 -1 >= 0; holds\n",
+    ),
+];
+
+#[test]
+fn conditions_have_the_cases_that_were_worked_out(rt: HostRuntime) -> Result<(), Fail> {
+    for (text, want) in CONDITIONS.as_slice() {
+        let mut out = String::new(rt.alloc());
+        put_condition(&mut out, &condition(rt.alloc(), text)?)?;
+        assert_eq!(rt; out.as_str(), *want, "{text}");
+    }
+    Ok(())
+}
+
+/// How many cases the condition has that so many parameters are not 0, or the limit.
+fn counted_nonzero(alloc: Global, count: u32) -> Result<Result<usize, PathLimit>, Fail> {
+    let mut text = String::from_str(alloc, "int f(int p")?;
+    for number in 1..count {
+        write!(text, ",int p{number}")?;
+    }
+    text.push_str("){return p != 0")?;
+    for number in 1..count {
+        write!(text, " && p{number} != 0")?;
+    }
+    text.push_str(";}")?;
+    match condition(alloc, text.as_str())? {
+        Ok(cases) => Ok(Ok(cases.len())),
+        Err(limit) => Ok(Err(limit)),
+    }
+}
+
+#[test]
+fn a_condition_has_1024_cases_at_most(rt: HostRuntime) -> Result<(), Fail> {
+    assert_eq!(rt; counted_nonzero(rt.alloc(), 10)?, Ok(1024));
+    assert_eq!(rt; counted_nonzero(rt.alloc(), 11)?, Err(PathLimit::ManyPaths));
     Ok(())
 }
