@@ -129,7 +129,7 @@ impl Segments {
     }
 
     /// The places with their cases.
-    pub(crate) fn starts(&self) -> &[Start]
+    pub fn starts(&self) -> &[Start]
         ensures starts { result.now ≡ self.now }
         ensures fit { FitStarts self.now }
     {
