@@ -1,2 +1,2 @@
 -- The public law (src/law.rt): what the proofs of other crates may cite.
-pub use Rattle.coupling_check.proofs.Proving.{checked_is_refutable}
+pub use Rattle.coupling_check.proofs.Proving.{checked_is_refutable, failing_is_unproved}

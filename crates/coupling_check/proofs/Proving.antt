@@ -1,9 +1,11 @@
 -- Lists of multipliers for obligations, one after the other.
-use Rattle.std.proofs.Common.{◌≡◌, ℕ, ◌+◌, ◌<◌, ◌≤◌, List, [], ◌∷◌, ◌++◌, length, length-append, drop, get_or, sym, ap, ◌∙◌, subst, arith}
-use Rattle.std.specs.Prelude.{ℤ, Option, Some, None, All}
+use Rattle.std.proofs.Common.{◌≡◌, ℕ, suc, ◌+◌, ◌<◌, ◌≤◌, List, [], ◌∷◌, ◌++◌, length, length-append, take, drop, get_or, refl, sym, ap, ◌∙◌, subst, add-suc, arith}
+use Rattle.std.specs.Prelude.{◌↔◌, ℤ, Result, Ok, Err, All, IsTrue}
+use Rattle.std.specs.Result.{is_ok}
 use Rattle.std.specs.List.{flat_map}
 use Rattle.std.proofs.Math.ListN.{drop_of_length-le}
-use Rattle.std.proofs.lemmas.List.{drop_more, drop-drop}
+use Rattle.std.proofs.Math.Seq.{take-append-add}
+use Rattle.std.proofs.lemmas.List.{drop_more, drop-drop, take-append-le, take-append-drop}
 use Rattle.std.proofs.lemmas.List.Elements.{All-nil, All-cons}
 use Rattle.lin_terms.specs.declared.row.Row.{Row}
 use Rattle.std.proofs.lemmas.Slice.Zip.{AllZip-long}
@@ -13,9 +15,11 @@ use Rattle.horn_clauses.specs.declared.family.Family.{Family}
 use Rattle.horn_clauses.specs.Obligations.{Obligation, rows_of, obligations_of, atoms_or_none, FitsNode, CanOblige}
 use Rattle.horn_clauses.specs.Family.{atoms_at}
 use Rattle.horn_clauses.specs.declared.clause.Clause.{Clause}
-use Rattle.coupling_check.specs.Checks.{IsProvedBy, AreProved, AreProvedUpTo, Reaches, CanCheckClause}
+use Rattle.horn_clauses.specs.declared.clause.Product.{Product}
+use Rattle.horn_clauses.specs.declared.clause.Proofs.{Proofs}
+use Rattle.coupling_check.specs.Checks.{IsProvedBy, AreProved, Checks, FailsAt, ChecksUpTo, AreProvedUpTo, FailsFrom, Reaches, CanCheckClause}
 use Rattle.coupling_check.proofs.Shapes.{some_all}
-use Rattle.coupling_check.specs.Laws.{CheckedIsRefutable}
+use Rattle.coupling_check.specs.Laws.{CheckedIsRefutable, FailingIsUnproved}
 
 -- ---- what it says
 
@@ -69,35 +73,64 @@ module _ (family : Family) where
       → drop (length first) (drop number lists) ≡ drop next lists
   behind first lists number next until = drop-drop (length first) number lists ∙ ap (λ (n : ℕ). drop n lists) (sym until)
 
+  -- a failure of the first, and one behind them
+  fails_early : (first second : List Obligation) (lists : List (List ℤ)) (number : ℕ) → FailsAt family first lists number
+      → FailsAt family (first ++ second) lists number
+  fails_early first second lists number failing =
+      let below : suc number ≤ length first = omega (arith, failing.inside) in
+      let fronts = take-append-le number first second (omega (arith, below)) in
+      record {
+        inside = omega (arith, failing.inside, length-append first second);
+        proved = subst (λ (some : List Obligation). AreProved family some lists) (sym fronts) failing.proved;
+        fails = λ proved.
+            failing.fails (subst (λ (some : List Obligation). AreProved family some lists) (take-append-le (suc number) first second below) proved);
+      }
+
+  fails_later : (first second : List Obligation) (lists : List (List ℤ)) (number : ℕ) → AreProved family first lists
+      → FailsAt family second (drop (length first) lists) number → FailsAt family (first ++ second) lists (length first + number)
+  fails_later first second lists number proved failing = record {
+    inside = omega (arith, failing.inside, length-append first second);
+    proved = subst (λ (some : List Obligation). AreProved family some lists) (sym (take-append-add first second number))
+        (join_proved first (take number second) lists proved failing.proved);
+    fails = λ all.
+        failing.fails (split_proved first (take (suc number) second) lists
+        (subst (λ (some : List Obligation). AreProved family some lists) (take-append-add first second (suc number))
+        (rw add-suc all))).1;
+  }
+
   -- where the first are proved, the second tell
-  pub then_reaches : (first second : List Obligation) (lists : List (List ℤ)) (number next : ℕ) (answer : Option ℕ)
+  pub then_reaches : (first second : List Obligation) (lists : List (List ℤ)) (number next : ℕ) (answer : Result ℕ ℕ)
       → AreProvedUpTo family first lists number next → Reaches family second lists next answer → Reaches family (first ++ second) lists number answer
-  then_reaches first second lists number next None proved later =
-      λ all. later (subst (λ (xs : List (List ℤ)). AreProved family second xs) (behind first lists number next proved.until)
-      (split_proved first second (drop number lists) all).1)
-  then_reaches first second lists number next (Some end) proved later = record {
+  then_reaches first second lists number next (Ok end) proved later = record {
     proved = join_proved first second (drop number lists) proved.proved
         (subst (λ (xs : List (List ℤ)). AreProved family second xs) (sym (behind first lists number next proved.until)) later.proved);
     until = omega (arith, proved.until, later.until, length-append first second);
   }
+  then_reaches first second lists number next (Err failing) proved later = record {
+    place = length first + later.place;
+    fails = fails_later first second (drop number lists) later.place proved.proved
+        (subst (λ (xs : List (List ℤ)). FailsAt family second xs later.place) (sym (behind first lists number next proved.until)) later.fails);
+    until = omega (arith, proved.until, later.until);
+  }
 
-  -- where the first are not proved, neither are all
-  pub stops : (first second : List Obligation) (lists : List (List ℤ)) (number : ℕ) → ¬ AreProved family first (drop number lists)
-      → Reaches family (first ++ second) lists number None
-  stops first second lists number none = λ all. none (split_proved first second (drop number lists) all).0
+  -- where one of the first fails, the second are not asked
+  pub stops : (first second : List Obligation) (lists : List (List ℤ)) (number failing : ℕ) → FailsFrom family first lists number failing
+      → Reaches family (first ++ second) lists number (Err failing)
+  stops first second lists number failing fails =
+      record { place = fails.place; fails = fails_early first second (drop number lists) fails.place fails.fails; until = fails.until }
 
-  -- one more that is none, and the end
+  -- one more that fails, and the end
   module _ (X : Type 0) (made : X → List Obligation) (xs : List X) (lists : List (List ℤ)) (number : ℕ) where
     -- what is told from place i and number `next` on is told of all
     abbrev pub Leads : ℕ → ℕ → Type 0
-    Leads i next = (answer : Option ℕ) → Reaches family (flat_map made (drop i xs)) lists next answer
+    Leads i next = (answer : Result ℕ ℕ) → Reaches family (flat_map made (drop i xs)) lists next answer
         → Reaches family (flat_map made xs) lists number answer
 
     module _ (i next : ℕ) (x : X) (below : i < length xs) (is : x ≡ get_or xs i x) (so_far : Leads i next) where
       from_here : drop i xs ≡ x ∷ drop (i + 1) xs
       from_here = drop_more xs i x below ∙ ap (λ (y : X). y ∷ drop (i + 1) xs) (sym is)
 
-      told_here : (answer : Option ℕ) → Reaches family (made x ++ flat_map made (drop (i + 1) xs)) lists next answer
+      told_here : (answer : Result ℕ ℕ) → Reaches family (made x ++ flat_map made (drop (i + 1) xs)) lists next answer
           → Reaches family (flat_map made xs) lists number answer
       told_here answer here =
           so_far answer (subst (λ (ys : List X). Reaches family (flat_map made ys) lists next answer) (sym from_here) here)
@@ -106,13 +139,28 @@ module _ (family : Family) where
       leads_on behind_it proved =
           λ answer later. told_here answer (then_reaches (made x) (flat_map made (drop (i + 1) xs)) lists next behind_it answer proved later)
 
-      pub leads_to_none : ¬ AreProved family (made x) (drop next lists) → Reaches family (flat_map made xs) lists number None
-      leads_to_none none = told_here None (stops (made x) (flat_map made (drop (i + 1) xs)) lists next none)
+      pub leads_to_failure : (failing : ℕ) → FailsFrom family (made x) lists next failing → Reaches family (flat_map made xs) lists number (Err failing)
+      leads_to_failure failing fails = told_here (Err failing) (stops (made x) (flat_map made (drop (i + 1) xs)) lists next failing fails)
 
-    pub leads_to_end : (i next : ℕ) → length xs ≤ i → Leads i next → Reaches family (flat_map made xs) lists number (Some next)
+    pub leads_to_end : (i next : ℕ) → length xs ≤ i → Leads i next → Reaches family (flat_map made xs) lists number (Ok next)
     leads_to_end i next past so_far =
-        so_far (Some next) (subst (λ (ys : List X). Reaches family (flat_map made ys) lists next (Some next)) (sym (drop_of_length-le xs past))
+        so_far (Ok next) (subst (λ (ys : List X). Reaches family (flat_map made ys) lists next (Ok next)) (sym (drop_of_length-le xs past))
         (record { proved = tt; until = omega arith }))
+
+-- ---- where one fails
+
+pub failing_is_unproved : FailingIsUnproved
+failing_is_unproved family obligations lists number failing =
+    λ proved.
+    failing.fails (split_proved family (take (suc number) obligations) (drop (suc number) obligations) lists
+    (subst (λ (all : List Obligation). AreProved family all lists) (sym (take-append-drop (suc number) obligations)) proved)).0
+
+-- All is proved exactly where the check comes to a count.
+pub counts_where_checked : (product : Product) (family : Family) (proofs : Proofs) (answer : Result ℕ ℕ) → ChecksUpTo product family proofs answer
+    → IsTrue (is_ok answer) ↔ Checks product family proofs
+counts_where_checked product family proofs (Ok count) all = (λ is. all.0, λ checked. refl)
+counts_where_checked product family proofs (Err number) failing =
+    (λ never. cc, λ checked. absurd (failing_is_unproved family (obligations_of family product) proofs.lists number failing checked))
 
 -- ---- what may be checked
 

@@ -14,7 +14,7 @@ use Rattle.horn_clauses.specs.declared.family.Family.{Family}
 use Rattle.horn_clauses.specs.Node.{node}
 use Rattle.horn_clauses.specs.Obligations.{obligation, rows_of}
 use Rattle.coupling_check.specs.Told.{coefs_in, told_rows}
-use Rattle.coupling_check.specs.Checks.{IsProvedBy, AreProved}
+use Rattle.coupling_check.specs.Checks.{IsProvedBy, AreProved, FailsAt}
 
 equality : Atom
 equality = Linear (pos 1 ∷ negsuc 0 ∷ []) (pos 0) Eq
@@ -80,3 +80,7 @@ one_too_many = tt
 -- each list goes to the obligation at its place
 in_order : AreProved family (obligation doubling equality false ∷ []) ((pos 2 ∷ pos 1 ∷ []) ∷ (pos 5 ∷ []) ∷ [])
 in_order = (proved, tt)
+
+-- the first obligation is proved, and there is no list for the second
+second_fails : FailsAt family (obligation doubling equality false ∷ obligation doubling equality true ∷ []) ((pos 2 ∷ pos 1 ∷ []) ∷ []) 1
+second_fails = record { inside = omega arith; proved = (proved, tt); fails = λ all. all.1 }

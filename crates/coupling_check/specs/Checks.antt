@@ -1,5 +1,5 @@
 -- Multipliers for each of the obligations of a family.
-use Rattle.std.specs.Prelude.{◌≡◌, ◌≤◌, ◌+◌, ℕ, ℤ, List, [], ◌∷◌, length, drop, Option, MatchOption, All}
+use Rattle.std.specs.Prelude.{◌≡◌, ◌≤◌, ◌<◌, ◌+◌, ℕ, suc, ℤ, List, [], ◌∷◌, length, take, drop, Result, Ok, Err, All}
 use Rattle.lin_terms.specs.declared.row.Row.{Row}
 use Rattle.lin_terms.specs.Bounds.{FitsRow}
 use Rattle.farkas_check.specs.Refutes.{Refutes}
@@ -27,17 +27,38 @@ AreProved family (obligation ∷ obligations) (multipliers ∷ lists) =
 abbrev pub Checks : Product → Family → Proofs → Type 0
 Checks product family proofs = AreProved family (obligations_of family product) proofs.lists
 
+-- The first so many of the obligations are proved, and with the next one they are not.
+pub record FailsAt (family : Family) (obligations : List Obligation) (lists : List (List ℤ)) (number : ℕ) : Type 0 where
+  pub inside : number < length obligations
+  pub proved : AreProved family (take number obligations) lists
+  pub fails : ¬ AreProved family (take (suc number) obligations) lists
+
+-- What the check comes to: how many obligations the family has, where the proofs have a list for each; or the number of
+-- the first one that its list does not prove.
+abbrev pub ChecksUpTo : Product → Family → Proofs → Result ℕ ℕ → Type 0
+ChecksUpTo product family proofs (Ok count) =
+    Checks product family proofs × (count ≡ length (obligations_of family product))
+ChecksUpTo product family proofs (Err number) = FailsAt family (obligations_of family product) proofs.lists number
+
 -- The obligations have the lists from the one number up to the other.
 pub record AreProvedUpTo (family : Family) (obligations : List Obligation) (lists : List (List ℤ))
     (start end : ℕ) : Type 0 where
   pub proved : AreProved family obligations (drop start lists)
   pub until : end ≡ start + length obligations
 
--- The answer is the number behind the obligations' own, where they have the lists from this number on, and else none.
-abbrev pub Reaches : Family → List Obligation → List (List ℤ) → ℕ → Option ℕ → Type 0
-Reaches family obligations lists number answer =
-    MatchOption answer (¬ AreProved family obligations (drop number lists))
-    (λ next. AreProvedUpTo family obligations lists number next)
+-- So many of the obligations have the lists from the one number on, and the next one, whose list has the other number,
+-- is not proved by it.
+pub record FailsFrom (family : Family) (obligations : List Obligation) (lists : List (List ℤ))
+    (start number : ℕ) : Type 0 where
+  pub place : ℕ
+  pub fails : FailsAt family obligations (drop start lists) place
+  pub until : number ≡ start + place
+
+-- The answer is the number behind the obligations' own, where they have the lists from this number on, and else that of
+-- the first one that its list does not prove.
+abbrev pub Reaches : Family → List Obligation → List (List ℤ) → ℕ → Result ℕ ℕ → Type 0
+Reaches family obligations lists number (Ok next) = AreProvedUpTo family obligations lists number next
+Reaches family obligations lists number (Err first) = FailsFrom family obligations lists number first
 
 -- The family has both nodes of the clause, with atoms over so many variables as the clause has there: at most 16.
 pub record CanCheckClause (family : Family) (clause : Clause) : Type 0 where

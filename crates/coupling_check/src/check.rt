@@ -4,7 +4,7 @@ ghost use Rattle.std.specs.List.{flat_map};
 ghost use Rattle.lin_terms.specs.Row.{IsFittingRow, HaveOneLength};
 ghost use Rattle.farkas_check.specs.Refutes.{IsCheckable};
 ghost use Rattle.horn_clauses.specs.Obligations.{obligation, obligation_rows, obligations_at, obligations_for, CanOblige};
-ghost use Rattle.coupling_check.specs.Checks.{IsProvedBy, AreProved, Reaches, Checks, CanCheckClause, CanCheck};
+ghost use Rattle.coupling_check.specs.Checks.{IsProvedBy, Reaches, Checks, ChecksUpTo, CanCheckClause, CanCheck};
 
 use crate::parts::atoms_or_none;
 use crate::told::tell;
@@ -48,7 +48,8 @@ fn is_proved(
     is_proved_by(&tell(family, clause, atom, upper), multipliers)
 }
 
-/// The number behind the obligation's own, where the list with its number proves it.
+/// The number behind the obligation's own, where the list with its number proves it, and else its
+/// own.
 fn check_one(
     family: &Family,
     clause: &Clause,
@@ -56,18 +57,19 @@ fn check_one(
     upper: bool,
     lists: &[Items<i128>],
     number: usize,
-) -> Option<usize>
+) -> Result<usize, usize>
     requires { CanOblige family.now clause.now atom.now }
     ensures { Reaches family.now (obligation clause.now atom.now upper ∷ []) lists.now number
         result }
 {
     if number >= lists.len() {
-        return None;
+        return Err(number);
     }
-    if !is_proved(family, clause, atom, upper, lists[number].as_slice()) {
-        return None;
+    if is_proved(family, clause, atom, upper, lists[number].as_slice()) {
+        Ok(number + 1)
+    } else {
+        Err(number)
     }
-    Some(number + 1)
 }
 
 /// The same of both obligations of an equality, the lower one first.
@@ -77,7 +79,7 @@ fn check_both(
     atom: &Atom,
     lists: &[Items<i128>],
     number: usize,
-) -> Option<usize>
+) -> Result<usize, usize>
     requires { CanOblige family.now clause.now atom.now }
     ensures { Reaches family.now
         (obligation clause.now atom.now false ∷ obligation clause.now atom.now true ∷ [])
@@ -94,7 +96,7 @@ fn check_atom(
     atom: &Atom,
     lists: &[Items<i128>],
     number: usize,
-) -> Option<usize>
+) -> Result<usize, usize>
     requires { CanOblige family.now clause.now atom.now }
     ensures { Reaches family.now (obligations_at clause.now atom.now) lists.now number result }
 {
@@ -115,7 +117,7 @@ fn check_atoms(
     atoms: &[Atom],
     lists: &[Items<i128>],
     number: usize,
-) -> Option<usize>
+) -> Result<usize, usize>
     requires { All (CanOblige family.now clause.now) atoms.now }
     ensures { Reaches family.now (flat_map (obligations_at clause.now) atoms.now) lists.now number
         result }
@@ -124,7 +126,7 @@ fn check_atoms(
     for atom in atoms {
         next = check_atom(family, clause, atom, lists, next)?;
     }
-    Some(next)
+    Ok(next)
 }
 
 /// The same of the obligations of a clause, in the order of the family's atoms at its end.
@@ -133,7 +135,7 @@ fn check_clause(
     clause: &Clause,
     lists: &[Items<i128>],
     number: usize,
-) -> Option<usize>
+) -> Result<usize, usize>
     requires { CanCheckClause family.now clause.now }
     ensures { Reaches family.now (obligations_for family.now clause.now) lists.now number result }
 {
@@ -141,31 +143,43 @@ fn check_clause(
     check_atoms(family, clause, atoms, lists, number)
 }
 
-/// Whether the obligations of the clauses have the lists, each the next one.
-fn check_clauses(family: &Family, clauses: &[Clause], lists: &[Items<i128>]) -> bool
+/// How many obligations the clauses have, where they have the lists, each the next one; or the
+/// number of the first one that its list does not prove.
+fn check_clauses(family: &Family, clauses: &[Clause], lists: &[Items<i128>]) -> Result<usize, usize>
     requires { All (CanCheckClause family.now) clauses.now }
-    ensures { IsTrue result
-        ↔ AreProved family.now (flat_map (obligations_for family.now) clauses.now) lists.now }
+    ensures { Reaches family.now (flat_map (obligations_for family.now) clauses.now) lists.now 0
+        result }
 {
     let mut number = 0;
     for clause in clauses {
-        let Some(next) = check_clause(family, clause, lists, number) else {
-            return false;
-        };
-        number = next;
+        number = check_clause(family, clause, lists, number)?;
     }
-    true
+    Ok(number)
 }
 
-/// Whether the proofs have a list for each obligation of the family, by its number, that refutes
-/// its rows: at most 4,096 rows, and multipliers below 2^56 in size. Lists past the last obligation
+/// How many obligations the family has, where the proofs have a list for each of them, by its
+/// number, that refutes its rows: at most 4,096 rows, and multipliers below 2^56 in size. The error
+/// is the number of the first obligation for which they have not. Lists past the last obligation
 /// are not looked at. It takes no memory.
 ///
 /// Example: a clause has the row `x0 - 1 >= 0` and ends with `x0`. For the atom `x0 >= 1` at its
-/// end the rows are `x0 - 1 >= 0` and `-x0 >= 0`, and the list 1, 1 proves it; 0, 0 does not.
+/// end the rows are `x0 - 1 >= 0` and `-x0 >= 0`, and the list 1, 1 proves it: `Ok(1)`. With the
+/// list 0, 0 it is `Err(0)`.
+pub fn check_obligations(
+    product: &Product,
+    family: &Family,
+    proofs: &Proofs,
+) -> Result<usize, usize>
+    requires { CanCheck product.now family.now }
+    ensures { ChecksUpTo product.now family.now proofs.now result }
+{
+    check_clauses(family, product.clauses.as_slice(), proofs.lists.as_slice())
+}
+
+/// Whether the proofs have a list for each obligation of the family, as `check_obligations` says.
 pub fn checks(product: &Product, family: &Family, proofs: &Proofs) -> bool
     requires { CanCheck product.now family.now }
     ensures { IsTrue result ↔ Checks product.now family.now proofs.now }
 {
-    check_clauses(family, product.clauses.as_slice(), proofs.lists.as_slice())
+    check_obligations(product, family, proofs).is_ok()
 }

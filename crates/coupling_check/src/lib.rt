@@ -3,8 +3,9 @@
 //!
 //! An obligation is a list of rows that no whole numbers may meet (`horn_clauses`), and multipliers
 //! refute it by Farkas' lemma (`farkas_check`). `told` tells its rows one entry after the other, so
-//! that they need not be made, and `checks` walks the obligations in their order. Whoever found the
-//! lists need not be believed. `specs/Checks.antt` says what is decided.
+//! that they need not be made, and `check_obligations` walks the obligations in their order, to the
+//! first that is not proved. Whoever found the lists need not be believed. `specs/Checks.antt` says
+//! what is decided.
 #![tactic(auto)]
 
 mod check;
@@ -15,5 +16,5 @@ mod parts;
 mod tests;
 mod told;
 
-pub use check::checks;
+pub use check::{check_obligations, checks};
 pub use law::law_of_checks;

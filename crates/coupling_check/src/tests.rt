@@ -5,8 +5,8 @@ ghost use Rattle.horn_clauses.specs.Clause.{FitsClause};
 ghost use Rattle.horn_clauses.specs.Obligations.{FitsNode};
 ghost use Rattle.coupling_check.specs.Checks.{CanCheckClause, CanCheck};
 
-use crate::checks;
 use crate::parts::columns_in;
+use crate::{check_obligations, checks};
 use c_ast::Place;
 use horn_clauses::{Atom, Clause, Family, Node, Product, Proofs, Rel};
 use lin_terms::{Form, Row, are_fitting_forms};
@@ -34,8 +34,8 @@ struct Case {
     after: &'static [FormEntries],
     /// The atoms at its end.
     end: &'static [AtomEntries],
-    /// The lists of multipliers, and whether they check.
-    lists: &'static [(&'static [&'static [i128]], bool)],
+    /// The lists of multipliers, and what the check of them comes to.
+    lists: &'static [(&'static [&'static [i128]], Result<usize, usize>)],
 }
 
 const EQUAL: AtomEntries = Some((&[1, -1], 0, Rel::Eq));
@@ -48,22 +48,22 @@ const CASES: [Case; 5] = [
         after: &[(&[2, 0], 0), (&[0, 2], 0)],
         end: &[EQUAL],
         lists: &[
-            (&[&[2, 1], &[-2, 1]], true),
-            (&[&[6, 3], &[-4, 2]], true),
+            (&[&[2, 1], &[-2, 1]], Ok(2)),
+            (&[&[6, 3], &[-4, 2]], Ok(2)),
             // zeros
-            (&[&[0, 0], &[0, 0]], false),
-            (&[&[2, 1], &[0, 0]], false),
+            (&[&[0, 0], &[0, 0]], Err(0)),
+            (&[&[2, 1], &[0, 0]], Err(1)),
             // one list short, and one too many
-            (&[], false),
-            (&[&[2, 1]], false),
-            (&[&[2, 1], &[-2, 1], &[5]], true),
+            (&[], Err(0)),
+            (&[&[2, 1]], Err(1)),
+            (&[&[2, 1], &[-2, 1], &[5]], Ok(2)),
             // another order, and another number of multipliers
-            (&[&[-2, 1], &[2, 1]], false),
-            (&[&[2, 1], &[-2, 1, 0]], false),
-            (&[&[2, 1], &[-2]], false),
+            (&[&[-2, 1], &[2, 1]], Err(0)),
+            (&[&[2, 1], &[-2, 1, 0]], Err(1)),
+            (&[&[2, 1], &[-2]], Err(1)),
             // multipliers below 2^56, and one of 2^56
-            (&[&[2, 1], &[-(1 << 55), 1 << 54]], true),
-            (&[&[2, 1], &[-(1 << 56), 1 << 55]], false),
+            (&[&[2, 1], &[-(1 << 55), 1 << 54]], Ok(2)),
+            (&[&[2, 1], &[-(1 << 56), 1 << 55]], Err(1)),
         ],
     },
     // the same with 2y + 1, so that 2x is less
@@ -72,7 +72,7 @@ const CASES: [Case; 5] = [
         rows: &[],
         after: &[(&[2, 0], 0), (&[0, 2], 1)],
         end: &[EQUAL],
-        lists: &[(&[&[2, 1], &[-2, 1]], false)],
+        lists: &[(&[&[2, 1], &[-2, 1]], Err(0))],
     },
     // the start is not met, then x >= 1 from x - 1 >= 0, which asks for one list
     Case {
@@ -81,10 +81,10 @@ const CASES: [Case; 5] = [
         after: &[(&[1, 0], 0), (&[0, 1], 0)],
         end: &[Some((&[1, 0], 1, Rel::AtLeast))],
         lists: &[
-            (&[&[1, 0, 0]], true),
-            (&[&[0, 1, 1]], true),
-            (&[&[0, 1, 0]], false),
-            (&[&[0, 2, 1]], false),
+            (&[&[1, 0, 0]], Ok(1)),
+            (&[&[0, 1, 1]], Ok(1)),
+            (&[&[0, 1, 0]], Err(0)),
+            (&[&[0, 2, 1]], Err(0)),
         ],
     },
     // x = y and x - y - 1 >= 0, so the end is not met
@@ -93,7 +93,7 @@ const CASES: [Case; 5] = [
         rows: &[(&[1, -1], -1, false)],
         after: &[(&[1, 0], 0), (&[0, 1], 0)],
         end: &[None],
-        lists: &[(&[&[-1, 1]], true), (&[&[1, 1]], false)],
+        lists: &[(&[&[-1, 1]], Ok(1)), (&[&[1, 1]], Err(0))],
     },
     // two atoms at the end, and an unknown z: x is 2z and y is z + z
     Case {
@@ -102,9 +102,9 @@ const CASES: [Case; 5] = [
         after: &[(&[0, 0, 2], 0), (&[0, 0, 2], 0)],
         end: &[Some((&[1, -1], 0, Rel::AtLeast)), EQUAL],
         lists: &[
-            (&[&[1], &[1], &[1]], true),
-            (&[&[1], &[1], &[0]], false),
-            (&[&[1], &[1]], false),
+            (&[&[1], &[1], &[1]], Ok(3)),
+            (&[&[1], &[1], &[0]], Err(2)),
+            (&[&[1], &[1]], Err(2)),
         ],
     },
 ];
@@ -275,8 +275,16 @@ fn proofs_of(alloc: Global, given: &[&[i128]]) -> Result<Proofs, AllocError> {
 }
 
 /// Whether the lists are judged as the table says.
-fn is_judged(product: &Product, family: &Family, proofs: &Proofs, want: bool) -> bool {
-    can_check(product, family) && checks(product, family, proofs) == want
+fn is_judged(
+    product: &Product,
+    family: &Family,
+    proofs: &Proofs,
+    want: Result<usize, usize>,
+) -> bool {
+    if !can_check(product, family) || checks(product, family, proofs) != want.is_ok() {
+        return false;
+    }
+    check_obligations(product, family, proofs) == want
 }
 
 fn are_judged(alloc: Global, case: &Case) -> Result<bool, AllocError> {
