@@ -28,7 +28,7 @@ use Rattle.sym_paths.specs.Points.{SomeOf}
 use Rattle.path_product.specs.Agreement.{HasNode, Move, SomeClause, IsProduct}
 use Rattle.relation.specs.Invariants.{AreKept}
 use Rattle.relation.specs.Coupling.{IsInFamily}
-use Rattle.relation.specs.Linear.{node_width, IsFamilyOver, SoundnessOfProducts, RefutableIsRefuted, LinearFamiliesCouple}
+use Rattle.relation.specs.Linear.{node_width, HasShape, IsFamilyOver, SoundnessOfProducts, RefutableIsRefuted, LinearFamiliesCouple}
 
 -- ---- the nodes of a family
 
@@ -84,6 +84,18 @@ is_there : {A : Type 0} (P : A → Type 0) (found : Option A) → IsSomeAnd foun
 is_there P None has = absurd has
 is_there P (Some x) has = refl
 
+-- ---- a family that has the product's nodes
+
+module _ (first second : FlowGraph) (product : Product) (family : Family) (shape : HasShape first second product family) where
+  pub in_product : (n : Node) → IsSome (atoms_at family n) → Contains product.nodes n
+  in_product n some = subst (λ (nodes : List Node). Contains nodes n) shape.nodes (some_listed family.nodes n some)
+
+  pub in_family : (n : Node) → Contains product.nodes n → IsSome (atoms_at family n)
+  in_family n has = listed_some family.nodes n (subst (λ (nodes : List Node). Contains nodes n) (sym shape.nodes) has)
+
+  pub has_fitting : (n : Node) → IsSome (atoms_at family n) → HasFittingAtoms family n (node_width first second n)
+  has_fitting n some = found_has (λ n atoms. All (FitsNode (node_width first second n)) atoms) family.nodes n shape.atoms some
+
 -- ---- a clause that leads
 
 -- Some clause of the list has the property.
@@ -112,26 +124,18 @@ module _ (f g : Program) (first second : FlowGraph) (condition : Expression) (al
       → length (d ++ e) ≡ node_width first second n
   both_long d e n first_long second_long = omega (arith, length-append d e, first_long, second_long)
 
-  in_product : (n : Node) → IsSome (atoms_at family n) → Contains product.nodes n
-  in_product n some = subst (λ (nodes : List Node). Contains nodes n) over.nodes (some_listed family.nodes n some)
-
-  in_family : (n : Node) → Contains product.nodes n → IsSome (atoms_at family n)
-  in_family n has = listed_some family.nodes n (subst (λ (nodes : List Node). Contains nodes n) (sym over.nodes) has)
-
-  has_fitting : (n : Node) → IsSome (atoms_at family n) → HasFittingAtoms family n (node_width first second n)
-  has_fitting n some = found_has (λ n atoms. All (FitsNode (node_width first second n)) atoms) family.nodes n over.atoms some
-
   -- A clause that leads from values in the family leads to values in it.
   led_inside : (n to : Node) (values after : List ℤ) → length values ≡ node_width first second n → InFamily family n values
       → OneOf (Leads n values to after) product.clauses → InFamily family to after
   led_inside n to values after long inside found =
       let clause : Clause = found.clause in
       let from : n ≡ clause.from = sym found.has.0 in
+      let some : IsSome (atoms_at family n) = is_there (All (λ atom. AtomHolds atom values)) (atoms_at family n) inside in
       let fits : HasFittingAtoms family n (length values) =
-      subst (λ (k : ℕ). HasFittingAtoms family n k) (sym long) (has_fitting n (is_there (All (λ atom. AtomHolds atom values)) (atoms_at family n) inside)) in
+      subst (λ (k : ℕ). HasFittingAtoms family n k) (sym long) (has_fitting first second product family over.shape n some) in
       let there = All-contains (λ clause. Contains product.nodes clause.to) product.clauses clause is_product.closed.to found.among in
       subst (λ (m : Node). InFamily family m after) found.has.1
-      (refuted_families_are_kept family product refuted clause found.among (in_family clause.to there) values after
+      (refuted_families_are_kept family product refuted clause found.among (in_family first second product family over.shape clause.to there) values after
       (subst (λ (m : Node). HasFittingAtoms family m (length values)) from fits) (subst (λ (m : Node). InFamily family m values) from inside) found.has.2)
 
   family_is_kept : AreKept f g alignment (IsInFamily condition family)
@@ -139,7 +143,7 @@ module _ (f g : Program) (first second : FlowGraph) (condition : Expression) (al
       let n : Node = node l r in
       let to : Node = node l' r' in
       let here : Contains product.nodes n =
-      in_product n (is_there (All (λ atom. AtomHolds atom (d ++ e))) (atoms_at family n) said.inside) in
+      in_product first second product family over.shape n (is_there (All (λ atom. AtomHolds atom (d ++ e))) (atoms_at family n) said.inside) in
       let has = All-contains (HasNode first second) product.nodes n is_product.nodes here in
       let first_long = (is_first.fits l d has.left).0 first_fits in
       let second_long = (is_second.fits r e has.right).0 second_fits in

@@ -3,3 +3,4 @@
 pub use Rattle.relation.proofs.Following.{invariants_force, law_of_invariants}
 pub use Rattle.relation.proofs.Couplings.{couplings_force, couples_under_each}
 pub use Rattle.relation.proofs.Families.{soundness_of_products, refutable_is_refuted, linear_families_couple}
+pub use Rattle.relation.proofs.Keeping.{coupled_never_differ}

@@ -2,6 +2,8 @@ pub mod Moving
 pub mod Following
 pub mod Couplings
 pub mod Families
+pub mod Keeping
+pub mod Shaping
 pub mod Laws
 pub mod Samples
 pub mod LinearSamples

@@ -7,6 +7,7 @@ use Rattle.lin_terms.specs.declared.row.Row.{Row}
 use Rattle.lin_terms.specs.Vectors.{dot}
 use Rattle.flow_graph.specs.FlowGraph.{FlowGraph, flow_graph}
 use Rattle.horn_clauses.specs.declared.atom.Atom.{Atom}
+use Rattle.horn_clauses.specs.declared.atom.Atom.TheVariants.{False}
 use Rattle.horn_clauses.specs.declared.clause.Clause.{Clause}
 use Rattle.horn_clauses.specs.declared.clause.Product.{Product}
 use Rattle.horn_clauses.specs.declared.node.Node.{Node}
@@ -14,6 +15,9 @@ use Rattle.horn_clauses.specs.Node.{entries, exits}
 use Rattle.horn_clauses.specs.Equalities.{equal_results}
 use Rattle.horn_clauses.specs.Obligations.{FitsNode, Obligation, obligation, rows_of, obligations_of}
 use Rattle.farkas_check.specs.Refutes.{column, Refutes, IsRefutable}
+use Rattle.path_product.specs.declared.limit.ProductLimit.TheVariants as limit
+use Rattle.relation.specs.declared.not_coupled.NotCoupled.TheVariants.{Limit, Memory}
+use Rattle.relation.specs.Coupled.{IsSmallAtom, lists_for, at_limit}
 use Rattle.relation.specs.Linear.{node_width, IsFamilyOver, IsLinear}
 use Rattle.relation.proofs.Samples.{equal}
 
@@ -96,9 +100,11 @@ AtomsFit entry = All (FitsNode (node_width graph graph entry.0)) entry.1
 over : IsFamilyOver graph graph product equal
 unfolding graph product equal
 over = record {
-  nodes = refl;
-  atoms = All-cons AtomsFit (entries, equal_results ∷ []) ((exits, equal_results ∷ []) ∷ []) fitting
-      (All-cons AtomsFit (exits, equal_results ∷ []) [] fitting (All-nil AtomsFit));
+  shape = record {
+    nodes = refl;
+    atoms = All-cons AtomsFit (entries, equal_results ∷ []) ((exits, equal_results ∷ []) ∷ []) fitting
+        (All-cons AtomsFit (exits, equal_results ∷ []) [] fitting (All-nil AtomsFit));
+  };
   at_entries = refl;
   at_exits = inl (0, omega arith, refl);
 }
@@ -116,3 +122,21 @@ linear = record {
       (All-cons CanRefute (obligation clause equal_results true) [] (record { multipliers = negsuc 0 ∷ pos 1 ∷ []; refutes = never_greater })
       (All-nil CanRefute));
 }
+
+-- ---- what is kept of lists, and what a limit comes to
+
+-- a third list is dropped
+two_lists : lists_for equal product (record { lists = (pos 1 ∷ []) ∷ (pos 2 ∷ []) ∷ (pos 3 ∷ []) ∷ [] })
+    ≡ record { lists = (pos 1 ∷ []) ∷ (pos 2 ∷ []) ∷ [] }
+unfolding equal product
+two_lists = refl
+
+no_memory : at_limit limit.Memory ≡ Memory
+no_memory = refl
+
+many_variables : at_limit (limit.ManyVariables entries) ≡ Limit (limit.ManyVariables entries)
+many_variables = refl
+
+-- `false` has no numbers
+false_is_small : IsSmallAtom False
+false_is_small = tt

@@ -24,13 +24,21 @@ pub record IsInFamily (condition : Expression) (family : Family) (n : Node) (d e
   pub inside : InFamily family n (d ++ e)
   pub meets : n ≡ entries → Meets condition d
 
+-- At the two entries the family says exactly that so many parameters are equal, pairwise, in their order.
+abbrev pub BeginsEqual : ℕ → Family → Type 0
+BeginsEqual params family = atoms_at family entries ≡ Some (equal_parameters params)
+
+-- At the two exits the family forces equal results.
+abbrev pub EndsEqual : Family → Type 0
+EndsEqual family = IsSomeAnd (atoms_at family exits) ForcesEqualResults
+
 -- The family couples the functions, on inputs that meet the condition, under the alignment. At the entries it says
 -- exactly that the parameters are equal, pairwise. From each node but the two exits, and from all values in the family
 -- there, whatever both sides' moves end with is in the family again. At the exits it forces equal results.
 pub record IsCoupling (f g : Program) (condition : Expression) (alignment : ℕ) (family : Family) : Type 0 where
-  pub at_entries : atoms_at family entries ≡ Some (equal_parameters f.params)
+  pub at_entries : BeginsEqual f.params family
   pub kept : AreKept f g alignment (IsInFamily condition family)
-  pub at_exits : IsSomeAnd (atoms_at family exits) ForcesEqualResults
+  pub at_exits : EndsEqual family
 
 -- Where a family couples two functions with as many parameters, no inputs that meet the condition make the two return
 -- differently.

@@ -1,30 +1,31 @@
 -- Families over the nodes of a product, whose obligations are refuted: they are couplings.
-use Rattle.std.specs.Prelude.{◌≡◌, ℕ, ◌+◌, List, map, Some, IsSomeAnd, All}
+use Rattle.std.specs.Prelude.{◌≡◌, ℕ, ◌+◌, List, map, All}
 use Rattle.c_ast.specs.Tree.{Expression, Program}
 use Rattle.flow_graph.specs.FlowGraph.{FlowGraph, width_at}
 use Rattle.flow_graph.specs.Built.{IsGraphOf}
 use Rattle.horn_clauses.specs.declared.clause.Product.{Product}
 use Rattle.horn_clauses.specs.declared.family.Family.{Family}
 use Rattle.horn_clauses.specs.declared.node.Node.{Node}
-use Rattle.horn_clauses.specs.Node.{entries, exits}
-use Rattle.horn_clauses.specs.Family.{atoms_at}
-use Rattle.horn_clauses.specs.Equalities.{equal_parameters}
 use Rattle.horn_clauses.specs.Obligations.{FitsNode, Obligation, rows_of, obligations_of, AreRefuted}
 use Rattle.farkas_check.specs.Refutes.{IsRefutable}
 use Rattle.path_product.specs.Agreement.{IsProduct}
-use Rattle.relation.specs.Coupling.{ForcesEqualResults, IsCoupling}
+use Rattle.relation.specs.Coupling.{BeginsEqual, EndsEqual, IsCoupling}
 
 -- How many values both sides have at the node.
 abbrev pub node_width : FlowGraph → FlowGraph → Node → ℕ
 node_width first second n = width_at first n.0 + width_at second n.1
 
--- The family has the product's nodes in their order, each with atoms over the values there. At the two entries it says
--- exactly that the parameters are equal, pairwise, and at the two exits it forces equal results.
-pub record IsFamilyOver (first second : FlowGraph) (product : Product) (family : Family) : Type 0 where
+-- The family has the product's nodes in their order, each with atoms over the values there.
+pub record HasShape (first second : FlowGraph) (product : Product) (family : Family) : Type 0 where
   pub nodes : map (λ entry. entry.0) family.nodes ≡ product.nodes
   pub atoms : All (λ entry. All (FitsNode (node_width first second entry.0)) entry.1) family.nodes
-  pub at_entries : atoms_at family entries ≡ Some (equal_parameters first.params)
-  pub at_exits : IsSomeAnd (atoms_at family exits) ForcesEqualResults
+
+-- The family has this shape. At the two entries it says exactly that the parameters are equal, pairwise, and at the two
+-- exits it forces equal results.
+pub record IsFamilyOver (first second : FlowGraph) (product : Product) (family : Family) : Type 0 where
+  pub shape : HasShape first second product family
+  pub at_entries : BeginsEqual first.params family
+  pub at_exits : EndsEqual family
 
 -- Some multipliers refute the rows of each of the obligations.
 abbrev pub AreRefutable : Family → List Obligation → Type 0

@@ -3,6 +3,7 @@ ghost use Rattle.relation.specs.Invariants.{LawOfInvariants};
 ghost use Rattle.relation.specs.Coupling.{LawOfCouplings, CouplesUnderEach};
 ghost use Rattle.relation.specs.Linear.{SoundnessOfProducts, RefutableIsRefuted};
 ghost use Rattle.relation.specs.Linear.{LinearFamiliesCouple};
+ghost use Rattle.relation.specs.Coupled.{CoupledNeverDiffer};
 
 /// What is said at the entries, kept by the moves of both functions, and forces equal results at
 /// the exits, shows that no inputs that meet the condition make the two return differently.
@@ -23,4 +24,9 @@ pub fn law_of_linear_families()
     ensures sound { SoundnessOfProducts }
     ensures refuted { RefutableIsRefuted }
     ensures linear { LinearFamiliesCouple }
+{}
+
+/// No inputs that meet the condition make the functions of a coupled comparison return differently.
+pub fn law_of_coupled()
+    ensures { CoupledNeverDiffer }
 {}

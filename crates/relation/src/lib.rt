@@ -9,8 +9,19 @@
 //!
 //! Each move is one that some clause of the product of the functions' graphs leads, so a family
 //! over its nodes is kept where the obligations of its clauses are refuted (`specs/Linear.antt`).
+//!
+//! `Coupled` is a comparison of two functions with a family that was found to be such a coupling
+//! (`specs/Coupled.antt`): the product is made, the family's form is tested (`family`, `atoms`),
+//! and its obligations are checked by the multipliers that come with it.
 #![tactic(auto)]
 
+mod atoms;
+mod coupled;
+mod family;
 mod law;
+mod not_coupled;
 
-pub use law::{law_of_couplings, law_of_invariants, law_of_linear_families};
+pub use coupled::Coupled;
+pub use family::has_small_atoms;
+pub use law::{law_of_coupled, law_of_couplings, law_of_invariants, law_of_linear_families};
+pub use not_coupled::NotCoupled;
