@@ -1,0 +1,3 @@
+pub mod Side
+pub mod Walk
+pub mod Laws
