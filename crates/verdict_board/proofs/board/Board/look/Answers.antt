@@ -1,0 +1,13 @@
+use Rattle.std.proofs.Common.{arith}
+use Rattle.verdict_board.proofs.Allowed.{looks_allowed}
+use Rattle.verdict_board.proofs.board.Board.look.Goals as goal
+
+pub load-requires : goal.load-requires
+load-requires c =
+    let board = c.args.self.now in
+    let seat = c.args.pass.now.seat in
+    let words = board.words in (
+      c.requires.board,
+      omega arith,
+      looks_allowed board.table.shared.key board.table.shared.table_id.slots seat.id seat.me c.args.pass.now.bare c.args.pass.now.live c.requires.passes,
+    )
