@@ -1,0 +1,9 @@
+pub mod Constants
+pub mod Template
+pub mod Mined
+pub mod Candidates
+pub mod Laws
+pub mod Sparse
+pub mod Kept
+pub mod Gathered
+pub mod Entries
