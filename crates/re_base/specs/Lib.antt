@@ -4,3 +4,4 @@ pub mod FileFaults
 pub mod Counts
 pub mod MemFiles
 pub mod MemSink
+pub mod Watches

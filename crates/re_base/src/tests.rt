@@ -1,5 +1,8 @@
 //! What no contract says: that calls succeed while there is memory, and what the system does.
-use crate::{FileFault, Files, HostFiles, HostOut, MemFiles, MemSink, Sink, SinkFailed, put_all};
+use crate::{
+    FileFault, Files, HostFiles, HostOut, MemFiles, MemSink, Never, Sink, SinkFailed, StopAt,
+    Watch, put_all,
+};
 use std::alloc::{AllocError, Global};
 use std::io::{ErrorKind, Write};
 use std::test::Fail;
@@ -160,5 +163,15 @@ fn a_writer_of_the_system_is_a_sink(rt: HostRuntime) -> Result<(), Fail> {
     }
     assert!(rt; put_all(&mut out, b", world").is_ok());
     assert_eq!(rt; writer.held.as_slice(), b"hel, world".as_slice());
+    Ok(())
+}
+
+#[test]
+fn a_watch_says_stop_from_its_question_on(rt: HostRuntime) -> Result<(), Fail> {
+    let mut watch = StopAt::new(2);
+    for want in [false, false, true, true] {
+        assert_eq!(rt; watch.stop(), want);
+    }
+    assert!(rt; !Never.stop());
     Ok(())
 }
