@@ -1,0 +1,9 @@
+pub mod Within
+pub mod Linear
+pub mod Striking
+pub mod Answers
+pub mod Laws
+pub mod Pass
+pub mod Round
+pub mod Cut
+pub mod Failures
