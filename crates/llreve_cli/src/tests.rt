@@ -1,5 +1,8 @@
 //! The whole command over files and sinks in memory. A row's right side is the status, and what
 //! both sinks hold.
+mod couplings;
+mod families;
+mod moves;
 mod paths;
 mod products;
 mod random;

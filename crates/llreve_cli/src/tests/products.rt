@@ -77,6 +77,15 @@ fn counted(alloc: Global, made: &Result<Product, ProductLimit>) -> Result<String
     Ok(out)
 }
 
+pub(super) fn alignment_of(number: u32) -> Result<Alignment, Fail> {
+    for alignment in Alignment::named() {
+        if alignment.number() == number {
+            return Ok(alignment);
+        }
+    }
+    Err("no such alignment".into())
+}
+
 /// The product under the condition that the text's function returns; no text is no condition.
 fn made_under(
     alloc: Global,
@@ -97,7 +106,7 @@ fn made_under(
     }
 }
 
-fn made(
+pub(super) fn made(
     alloc: Global,
     first: &str,
     second: &str,
@@ -181,16 +190,13 @@ const ROWS: [(&str, &str, &str, u32, &str); 4] = [
 #[test]
 fn products_are_those_that_were_worked_out(rt: HostRuntime) -> Result<(), Fail> {
     for (first, second, condition, number, want) in ROWS.as_slice() {
-        for alignment in Alignment::named() {
-            if alignment.number() == *number {
-                let made = made(rt.alloc(), first, second, condition, alignment)?;
-                assert_eq!(rt;
-                    told(rt.alloc(), &made)?.as_str(),
-                    *want,
-                    "{first} {second}"
-                );
-            }
-        }
+        let alignment = alignment_of(*number)?;
+        let made = made(rt.alloc(), first, second, condition, alignment)?;
+        assert_eq!(rt;
+            told(rt.alloc(), &made)?.as_str(),
+            *want,
+            "{first} {second}"
+        );
     }
     Ok(())
 }
@@ -296,12 +302,14 @@ fn cases_and_unknowns_are_counted(rt: HostRuntime) -> Result<(), Fail> {
     for (piece, first, second, want) in COUNTS.as_slice() {
         let first = repeated(rt.alloc(), piece, *first)?;
         let second = repeated(rt.alloc(), piece, *second)?;
-        for alignment in Alignment::named() {
-            if alignment.number() == 1 {
-                let made = made(rt.alloc(), first.as_str(), second.as_str(), "", alignment)?;
-                assert_eq!(rt; counted(rt.alloc(), &made)?.as_str(), *want, "{piece}");
-            }
-        }
+        let made = made(
+            rt.alloc(),
+            first.as_str(),
+            second.as_str(),
+            "",
+            alignment_of(1)?,
+        )?;
+        assert_eq!(rt; counted(rt.alloc(), &made)?.as_str(), *want, "{piece}");
     }
     Ok(())
 }
@@ -333,12 +341,8 @@ const BOTH: [(&str, u32, &str); 3] = [
 #[test]
 fn nested_loops_have_these_nodes(rt: HostRuntime) -> Result<(), Fail> {
     for (text, number, want) in BOTH.as_slice() {
-        for alignment in Alignment::named() {
-            if alignment.number() == *number {
-                let made = made(rt.alloc(), text, text, "", alignment)?;
-                assert_eq!(rt; counted(rt.alloc(), &made)?.as_str(), *want, "{text}");
-            }
-        }
+        let made = made(rt.alloc(), text, text, "", alignment_of(*number)?)?;
+        assert_eq!(rt; counted(rt.alloc(), &made)?.as_str(), *want, "{text}");
     }
     Ok(())
 }

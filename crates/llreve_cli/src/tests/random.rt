@@ -8,7 +8,7 @@ use std::test::Fail;
 
 /// A capital letter stands for a piece that is still to be chosen: S for a statement, T for one
 /// within a loop, E for an expression, V for a variable, D for a divisor, N for a small number, and
-/// K for a mark.
+/// K for a mark. L is a statement without products, and C a condition of one test.
 const SEED: &str = "int f(int a,int b){int s=0; int i=0; S S S S return E;}";
 
 const STATEMENTS: [&str; 21] = [
@@ -70,6 +70,21 @@ const EXPRESSIONS: [&str; 20] = [
     "(E) / D",
 ];
 
+const LINEAR: [&str; 10] = [
+    "V+=V;",
+    "V=V-N;",
+    "V-=2*V;",
+    "V/=D;",
+    "V%=D;",
+    "if(C) L",
+    "if(C) L else L",
+    "if(C) return V;",
+    "{L L}",
+    "{int c=V; __mark(K); s-=c; L}",
+];
+
+const TESTS: [&str; 6] = ["V<N", "V>=V", "V==N", "V!=V", "V%D", "V<V && V>=N"];
+
 const OPERANDS: [&str; 10] = [
     "a",
     "b",
@@ -95,8 +110,11 @@ fn pieces(letter: char, last: bool) -> &'static [&'static str] {
         ('S', false) => STATEMENTS.as_slice(),
         ('T', false) => TURNS.as_slice(),
         ('E', false) => EXPRESSIONS.as_slice(),
-        ('S' | 'T', true) => &["s+=i;", ";"],
+        ('L', false) => LINEAR.as_slice(),
+        ('C', false) => TESTS.as_slice(),
+        ('S' | 'T' | 'L', true) => &["s+=i;", ";"],
         ('E', true) => OPERANDS.as_slice(),
+        ('C', true) => &["a<b", "s>=i"],
         ('V', true) => VARIABLES.as_slice(),
         ('D', true) => DIVISORS.as_slice(),
         ('N', true) => NUMBERS.as_slice(),
@@ -144,14 +162,23 @@ fn grown(
     Ok(out)
 }
 
-/// The text of the number.
-pub(super) fn text_of(alloc: Global, number: u64) -> Result<String, AllocError> {
+/// The text of the number: pieces are chosen for the letters so many times, and then the last ones.
+pub(super) fn text_from(
+    alloc: Global,
+    seed: &str,
+    times: u32,
+    number: u64,
+) -> Result<String, AllocError> {
     let mut dice = Lcg64Xsh32::new(0, number);
-    let mut text = String::from_str(alloc, SEED)?;
-    for _ in 0..4 {
+    let mut text = String::from_str(alloc, seed)?;
+    for _ in 0..times {
         text = grown(alloc, text.as_str(), false, &mut dice)?;
     }
     grown(alloc, text.as_str(), true, &mut dice)
+}
+
+pub(super) fn text_of(alloc: Global, number: u64) -> Result<String, AllocError> {
+    text_from(alloc, SEED, 4, number)
 }
 
 /// How many runs came to what.

@@ -79,8 +79,7 @@ fn next_unknown(rows: &[Row], point: &[i128]) -> i128 {
 }
 
 /// The values, and behind them the numbers for the unknowns.
-fn solved(alloc: Global, case: &Case, values: &[i128]) -> Result<Vec<i128>, AllocError> {
-    let rows = case.rows.as_slice();
+fn solved(alloc: Global, rows: &[Row], values: &[i128]) -> Result<Vec<i128>, AllocError> {
     let columns = rows.first().map_or(0, |row| row.coefs.len());
     let mut point = values.to_vec(alloc)?;
     for _ in values.len()..columns {
@@ -99,24 +98,42 @@ fn has_value(form: &Form, point: &[i128], want: i128) -> bool {
     value(form.coefs.as_slice(), form.constant, point) == want
 }
 
-/// Whether the case, where it holds, leads where the step leads; `None` where it does not hold.
-fn leads(alloc: Global, case: &Case, step: &Step) -> Result<Option<bool>, AllocError> {
-    let point = solved(alloc, case, step.values.as_slice())?;
-    if !case
-        .rows
-        .as_slice()
-        .iter()
-        .all(|row| holds(row, point.as_slice()))
-    {
-        return Ok(None);
-    }
-    let forms = case.after.as_slice();
-    let same = forms.len() == step.after.len()
+fn have_values(forms: &[Form], point: &[i128], wants: &[i128]) -> bool {
+    forms.len() == wants.len()
         && forms
             .iter()
-            .zip(step.after.as_slice())
-            .all(|(form, want)| has_value(form, point.as_slice(), *want));
-    Ok(Some(case.to == step.to && same))
+            .zip(wants)
+            .all(|(form, want)| has_value(form, point, *want))
+}
+
+/// Whether the forms have the values that are wanted, where all rows hold at the values; `None`
+/// where one does not.
+pub(super) fn gives(
+    alloc: Global,
+    rows: &[Row],
+    forms: &[Form],
+    values: &[i128],
+    wants: &[i128],
+) -> Result<Option<bool>, AllocError> {
+    let point = solved(alloc, rows, values)?;
+    if rows.iter().all(|row| holds(row, point.as_slice())) {
+        Ok(Some(have_values(forms, point.as_slice(), wants)))
+    } else {
+        Ok(None)
+    }
+}
+
+/// Whether the case, where it holds, leads where the step leads; `None` where it does not hold.
+fn leads(alloc: Global, case: &Case, step: &Step) -> Result<Option<bool>, AllocError> {
+    let (rows, forms) = (case.rows.as_slice(), case.after.as_slice());
+    let given = gives(
+        alloc,
+        rows,
+        forms,
+        step.values.as_slice(),
+        step.after.as_slice(),
+    )?;
+    Ok(given.map(|same| same && case.to == step.to))
 }
 
 /// Whether exactly one of the cases holds, and leads where the step leads.
