@@ -7,6 +7,8 @@
 
 mod law;
 mod live;
+#[cfg(test)]
+mod tests;
 
 pub use law::law_of_live_candidates;
 pub use live::Live;
