@@ -1,0 +1,10 @@
+pub mod Listings
+pub mod Orders
+pub mod Histories
+pub mod Playing
+pub mod Drawn
+pub mod AlongWalks
+pub mod MorePairs
+pub mod OneKind
+pub mod Laws
+pub mod Samples
