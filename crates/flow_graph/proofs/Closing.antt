@@ -7,7 +7,7 @@ use Rattle.std.specs.Option.{option_map}
 use Rattle.c_ast.specs.Formed.{one_if}
 use Rattle.flow_graph.specs.declared.op.Op.{Op}
 use Rattle.flow_graph.specs.Operation.{operation_of}
-use Rattle.flow_graph.specs.Layout.{Slots, slots_of}
+use Rattle.flow_graph.specs.Layout.{Slots, slots_of, all_filled}
 use Rattle.flow_graph.proofs.Laid.{table_of}
 
 pub closed_some : (slots : List (Option Op)) (slot : Option Op) (ops : List Op) (op : Op) → ops ≡ filter_map (λ s. s) slots → slot ≡ Some op → ops ++ op ∷ []
@@ -39,3 +39,9 @@ pub closed_length : (slots : List (Option Op)) → opens (slots_of slots) ≡ 0 
 closed_length [] none = refl
 closed_length (None ∷ slots) none = absurd (omega arith)
 closed_length (Some op ∷ slots) none = ap suc (closed_length slots (omega arith))
+
+-- and the slots are those of the operations
+pub closed_filled : (slots : List (Option Op)) → opens (slots_of slots) ≡ 0 → all_filled (filter_map (λ s. s) slots) ≡ slots_of slots
+closed_filled [] none = refl
+closed_filled (None ∷ slots) none = absurd (omega arith)
+closed_filled (Some op ∷ slots) none = ap (λ (z : Slots). Some (operation_of op) ∷ z) (closed_filled slots (omega arith))

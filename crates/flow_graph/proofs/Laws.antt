@@ -1,6 +1,10 @@
 -- The public laws (src/law.rt), each with its proof: what the proofs of other crates may cite.
-use Rattle.flow_graph.specs.Laws.{GraphSegmentIsDetermined, GraphSegmentExists, GraphSegmentFits, EntryHasParameters, MapOfListed}
+use Rattle.flow_graph.specs.Laws.{GraphIsOne, GraphSegmentIsDetermined, GraphSegmentExists, GraphSegmentFits, EntryHasParameters, MapOfListed}
+use Rattle.flow_graph.proofs.OneGraph as one_graph
 use Rattle.flow_graph.proofs.Meeting as meeting
+
+pub graph_is_one : GraphIsOne
+graph_is_one = one_graph.graph_is_one
 
 pub graph_segment_is_determined : GraphSegmentIsDetermined
 graph_segment_is_determined = meeting.graph_segment_is_determined

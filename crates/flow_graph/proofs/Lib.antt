@@ -11,5 +11,6 @@ pub mod Listing
 pub mod Places
 pub mod Whole
 pub mod Meeting
+pub mod OneGraph
 pub mod Laws
 pub mod Samples

@@ -9,7 +9,7 @@ use Rattle.flow_graph.specs.declared.stop.Stop.{Stop}
 use Rattle.flow_graph.specs.Operation.{Set, Branch, Mark, Return}
 use Rattle.flow_graph.specs.FlowGraph.{FlowGraph, node_after, variables_at, places_of}
 use Rattle.flow_graph.specs.Run.{Goes, Passes, Ends, turn, values_of}
-use Rattle.flow_graph.specs.Layout.{layout, lay}
+use Rattle.flow_graph.specs.Layout.{layout, lay, ending}
 use Rattle.flow_graph.specs.Scopes.{with_declared, noted}
 
 -- the mark's node stands before the test's, and the body leads back to the mark
@@ -26,6 +26,10 @@ sums_laid : lay sums.body (Some (Return (Num (pos 0))) ∷ []) 0 0 0
     ∷ []
     ) 7
 sums_laid = refl
+
+-- a body without statements: falling off the end
+nothing_laid : lay tree.Nil ending 0 0 0 ≡ layout (Some (Return (Num (pos 0))) ∷ []) 0
+nothing_laid = refl
 
 -- do { __mark(7); if (x) continue; break; } while (x);
 do_laid : lay (tree.Loop None (Var 0) (tree.Mark 7 (tree.If (Var 0) (tree.Continue tree.Nil) tree.Nil (tree.Break tree.Nil))) tree.Nil false tree.Nil)

@@ -33,11 +33,11 @@ use Rattle.flow_graph.specs.FlowGraph.{FlowGraph, stop_of, next_of, scope_of_sto
 use Rattle.flow_graph.specs.Run.{values_of, seen_from}
 use Rattle.flow_graph.specs.WellFormed.{Fits, IsFlowGraph}
 use Rattle.flow_graph.specs.Built.{IsGraphOf}
-use Rattle.flow_graph.specs.Layout.{Slots, slots_of, Layout, layout, added, lay}
+use Rattle.flow_graph.specs.Layout.{Slots, slots_of, Layout, layout, added, lay, ending, all_filled, IsLaidOut}
 use Rattle.flow_graph.specs.Stops.{MarksOf, AreStops}
 use Rattle.flow_graph.proofs.Growing.{lay_grows, slots_of-length}
 use Rattle.flow_graph.proofs.Laid.{Table, TestLaid, Laid, LoopLaid, IsEnd, WorkLaid, Extends, laid_more, grows_extends, table_of, lay_laid}
-use Rattle.flow_graph.proofs.Closing.{opens, closed_table, closed_length}
+use Rattle.flow_graph.proofs.Closing.{opens, closed_table, closed_length, closed_filled}
 use Rattle.flow_graph.proofs.Counting.{slot_marks, some_marks, one_node, lay_counts, stands_somewhere}
 use Rattle.flow_graph.proofs.Fitting.{LayFits, lay_fits, fits_more}
 use Rattle.flow_graph.proofs.Listing.{spread-variables_in, parameters_counted, variables_in-All}
@@ -106,18 +106,14 @@ module _ (at : Table) where
 
 -- ---- what the code has built
 
--- the node of falling off the end, with which the layout begins
-abbrev pub ending : Slots
-ending = Some (Return (tree.Num (pos 0))) ∷ []
-
--- The operations are those of the function's statements, laid in front of the end.
-pub record IsLaidOut (f : Program) (ops : List Op) (entry : ℕ) : Type 0 where
+-- The operations are those of slots in which the function's statements are laid in front of the end.
+pub record AreClosed (f : Program) (ops : List Op) (entry : ℕ) : Type 0 where
   pub slots : List (Option Op)
   pub laid : layout (slots_of slots) entry ≡ lay f.body ending 0 0 0
   pub ops_are : ops ≡ filter_map (λ slot. slot) slots
   pub numbered : length slots < 2 ^ 32
 
-module _ (f : Function) (is : IsFunction f) (ops : List Op) (entry : ℕ) (out : IsLaidOut (program_of f) ops entry) where
+module _ (f : Function) (is : IsFunction f) (ops : List Op) (entry : ℕ) (out : AreClosed (program_of f) ops entry) where
   abbrev final : Layout
   final = lay (statements_of f.body) ending 0 0 0
 
@@ -135,6 +131,10 @@ module _ (f : Function) (is : IsFunction f) (ops : List Op) (entry : ℕ) (out :
 
   count : length ops ≡ length final.slots
   count = ap length out.ops_are ∙ closed_length out.slots unfilled ∙ ap length slots_are
+
+  -- the slots of the operations are those of the layout
+  laid_out_whole : IsLaidOut (program_of f) ops entry
+  laid_out_whole = ap (λ (z : Slots). layout z entry) (ap all_filled out.ops_are ∙ closed_filled out.slots unfilled) ∙ out.laid
 
   -- the statements are laid over the operations
   abbrev at : Table
@@ -353,6 +353,8 @@ module _ (f : Function) (is : IsFunction f) (ops : List Op) (entry : ℕ) (out :
       places = λ l. (a_place l, λ p. (starts l p.work p.from).from);
       scopes = λ l p work from. (starts l work from).scope;
       fits = place_fits;
+      laid = laid_out_whole;
+      stops = are;
       traces = λ inputs trace. (
         λ h. (let o = begin_graph always None with_event no_event always_accepts inputs trace h.steps h.ran in record { steps = o.steps; ran = o.is }),
         λ h. (let o = begin_source always None with_event no_event always_accepts inputs trace h.steps h.ran in record { steps = o.steps; ran = o.is }),
@@ -380,7 +382,7 @@ zero_is = fold_out-Expr Expression expression_level (Num (pos 0))
 pub laid_out : (f : Function) (none first slots : List (Option Op)) (ops : List Op) (body : List Stmt) (end entry : ℕ) → none ≡ []
     → layout (slots_of first) end ≡ added (slots_of none) (Some (Return (expression_of (Num (pos 0))))) → body ≡ f.body → layout (slots_of slots) entry
     ≡ lay (statements_of body) (slots_of first) end end end
-    → length slots < 2 ^ 32 → ops ≡ filter_map (λ slot. slot) slots → IsLaidOut (program_of f) ops entry
+    → length slots < 2 ^ 32 → ops ≡ filter_map (λ slot. slot) slots → AreClosed (program_of f) ops entry
 laid_out f none first slots ops body end entry none_is first_is body_is laid numbered ops_are =
     let start : layout (slots_of first) end ≡ layout ending 0 =
     first_is ∙ ap (λ (z : List (Option Op)). added (slots_of z) (Some (Return (expression_of (Num (pos 0)))))) none_is
@@ -393,12 +395,12 @@ laid_out f none first slots ops body end entry none_is first_is body_is laid num
       numbered = numbered;
     }
 
-pub marks_listed : (f : Function) (ops listed : List Op) (entry : ℕ) → IsFunction f → IsLaidOut (program_of f) ops entry → listed ≡ ops
+pub marks_listed : (f : Function) (ops listed : List Op) (entry : ℕ) → IsFunction f → AreClosed (program_of f) ops entry → listed ≡ ops
     → MarksOf (program_of f) listed
 marks_listed f ops listed entry is out listed_is = subst (MarksOf (program_of f)) (sym listed_is) (marks_of f is ops entry out)
 
 module _ (f : Function) (params vars entry : ℕ) (ops listed own : List Op) (stops kept : List Stop) (is : IsFunction f)
-    (out : IsLaidOut (program_of f) ops entry) (listed_is : listed ≡ ops)
+    (out : AreClosed (program_of f) ops entry) (listed_is : listed ≡ ops)
     (are : AreStops (program_of f) listed stops) (params_is : params ≡ f.params) (vars_is : vars ≡ length f.vars) (own_is : own ≡ ops)
     (kept_is : kept ≡ stops) where
   are_stops : AreStops (program_of f) ops stops

@@ -1,10 +1,16 @@
--- Laws of graphs: the places that follow one another, and the values there.
+-- Laws of graphs: that a function has one, the places that follow one another, and the values there.
 use Rattle.std.specs.Prelude.{◌≡◌, ℕ, List, ℤ, length, map}
 use Rattle.c_ast.specs.declared.place.Place.{Place}
 use Rattle.c_ast.specs.declared.place.Place.TheVariants as place
+use Rattle.c_ast.specs.Tree.{Program}
 use Rattle.flow_graph.specs.FlowGraph.{FlowGraph, width_at, GoesOnAt, HasPlace}
 use Rattle.flow_graph.specs.Run.{values_with, IsGraphSegment}
 use Rattle.flow_graph.specs.WellFormed.{IsFlowGraph}
+use Rattle.flow_graph.specs.Built.{IsGraphOf}
+
+-- A function has one graph.
+abbrev pub GraphIsOne : Type 0
+GraphIsOne = (f : Program) (first second : FlowGraph) → IsGraphOf f first → IsGraphOf f second → first ≡ second
 
 -- From a place with any values at most one place is met next, with one list of values.
 abbrev pub GraphSegmentIsDetermined : Type 0

@@ -1,8 +1,8 @@
 -- How statements are laid as nodes: the last first, in front of the node that comes next.
-use Rattle.std.specs.Prelude.{◌≡◌, ℕ, if◌then◌else◌, List, [], ◌∷◌, ◌++◌, length, map, Option, Some, None, slice_set}
+use Rattle.std.specs.Prelude.{◌≡◌, ℕ, if◌then◌else◌, List, [], ◌∷◌, ◌++◌, length, map, Option, Some, None, pos, slice_set}
 use Rattle.std.specs.Option.{option_map}
 use Rattle.c_ast.specs.Tree as tree
-use Rattle.c_ast.specs.Tree.{Statements}
+use Rattle.c_ast.specs.Tree.{Statements, Program}
 use Rattle.flow_graph.specs.declared.op.Op.{Op}
 use Rattle.flow_graph.specs.Operation.{Operation, Set, Branch, Mark, Return, operation_of}
 
@@ -70,3 +70,16 @@ lay (tree.Block a others) slots next out again =
 pub record Lays (front : Statements → Statements) (out again : ℕ) (behind made : Layout) : Type 0 where
   pub by : (others : Statements) (slots : Slots) (next : ℕ) → behind ≡ lay others slots next out again
       → made ≡ lay (front others) slots next out again
+
+-- The node with which a layout begins, number 0: falling off the end of a function returns 0.
+abbrev pub ending : Slots
+ending = Some (Return (tree.Num (pos 0))) ∷ []
+
+-- The slots of these nodes, all of them filled.
+abbrev pub all_filled : List Op → Slots
+all_filled = map (λ op. Some (operation_of op))
+
+-- The nodes are those of the function's statements, laid in front of the end, and a run begins where these begin. No
+-- slot is open.
+abbrev pub IsLaidOut : Program → List Op → ℕ → Type 0
+IsLaidOut f ops entry = layout (all_filled ops) entry ≡ lay f.body ending 0 0 0

@@ -4,7 +4,8 @@
 //! `build` turns a checked function into its graph. `specs/Run.antt` says what a graph does, a step
 //! at a time, and `specs/Built.antt` that it does what the steps of the source do: the same marks
 //! with the same values and the same result, from every place and in both directions; and from the
-//! entry it is judged alike: it returns, passes one mark too many, or meets a wide value.
+//! entry it is judged alike: it returns, passes one mark too many, or meets a wide value. The nodes
+//! are numbered as `specs/Layout.antt` lays them, so a function has one graph.
 #![tactic(auto)]
 
 // A graph and its nodes.
@@ -17,12 +18,12 @@ mod layout;
 mod scopes;
 mod stop;
 
-// What graphs promise of segments and values.
+// That a function has one graph, and what graphs promise of segments and values.
 mod law;
 #[cfg(test)]
 mod tests;
 
 pub use builder::build;
 pub use graph::Graph;
-pub use law::{law_of_graph_segments, law_of_graph_values};
+pub use law::{law_of_graph_segments, law_of_graph_values, law_of_graphs};
 pub use op::Op;
