@@ -2,13 +2,17 @@
 use Rattle.std.specs.Prelude.{◌≡◌, ◌≤◌, ◌<◌, ◌+◌, ℕ, suc, ℤ, List, [], ◌∷◌, length, take, drop, Result, Ok, Err, All}
 use Rattle.lin_terms.specs.declared.row.Row.{Row}
 use Rattle.lin_terms.specs.Bounds.{FitsRow}
-use Rattle.farkas_check.specs.Refutes.{Refutes}
+use Rattle.farkas_check.specs.Refutes.{Refutes, IsRefutable}
 use Rattle.horn_clauses.specs.declared.clause.Clause.{Clause}
 use Rattle.horn_clauses.specs.declared.clause.Product.{Product}
 use Rattle.horn_clauses.specs.declared.clause.Proofs.{Proofs}
 use Rattle.horn_clauses.specs.declared.family.Family.{Family}
 use Rattle.horn_clauses.specs.Clause.{FitsClause}
 use Rattle.horn_clauses.specs.Obligations.{HasFittingAtoms, Obligation, rows_of, obligations_of}
+
+-- Some multipliers refute the rows of each of the obligations.
+abbrev pub AreRefutable : Family → List Obligation → Type 0
+AreRefutable family obligations = All (λ obligation. IsRefutable (rows_of family obligation)) obligations
 
 -- The multipliers, each below 2^56 in size, refute the rows, of which there are at most 4,096.
 pub record IsProvedBy (rows : List Row) (multipliers : List ℤ) : Type 0 where

@@ -6,10 +6,9 @@ ghost use Rattle.farkas_check.specs.Refutes.{IsCheckable};
 ghost use Rattle.horn_clauses.specs.Obligations.{obligation, obligation_rows, obligations_at, obligations_for, CanOblige};
 ghost use Rattle.coupling_check.specs.Checks.{IsProvedBy, Reaches, Checks, ChecksUpTo, CanCheckClause, CanCheck};
 
-use crate::parts::atoms_or_none;
 use crate::told::tell;
 use farkas_check::{Rows, refutes_of};
-use horn_clauses::{Atom, Clause, Family, Product, Proofs, Rel};
+use horn_clauses::{Atom, Clause, Family, Product, Proofs, Rel, atoms_or_none};
 use lin_terms::{MOST_ROWS, are_fitting_multipliers};
 use sqlite_items::Items;
 

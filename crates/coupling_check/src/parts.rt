@@ -4,58 +4,10 @@ ghost use Rattle.std.specs.Prelude.{◌≡◌, ◌<◌, ◌^◌, ℕ, false, pos
 ghost use Rattle.lin_terms.specs.Bounds.{FitsRow};
 ghost use Rattle.lin_terms.specs.Row.{IsFittingRow};
 ghost use Rattle.farkas_check.specs.Refutes.{column, constants, equalities};
-ghost use Rattle.horn_clauses.specs.Clause.{columns_in};
-ghost use Rattle.horn_clauses.specs.Family.{atoms_at};
-ghost use Rattle.horn_clauses.specs.Obligations.{is_equality, atom_row, atoms_or_none, first_width, columns_over};
+ghost use Rattle.horn_clauses.specs.Obligations.{is_equality, atom_row};
 
-use horn_clauses::{Atom, Clause, Family, Node, Rel};
-use lin_terms::{Form, Row};
-
-// ---- the columns
-
-/// The family's atoms at the node, and none where it lacks the node.
-pub fn atoms_or_none<'a>(family: &'a Family, node: &Node) -> &'a [Atom]
-    ensures { result.now ≡ atoms_or_none (atoms_at family.now node.now) }
-{
-    match family.at(node) {
-        Some(atoms) => atoms,
-        None => &[],
-    }
-}
-
-/// How many coefficients the first linear atom has; where there is none, 0.
-fn first_width(atoms: &[Atom]) -> usize
-    ensures { result ≡ first_width atoms.now }
-{
-    for atom in atoms {
-        if let Atom::Linear { coefs, .. } = atom {
-            return coefs.len();
-        }
-    }
-    0
-}
-
-/// The columns of rows and forms of one length; `width` where there are none.
-pub(crate) fn columns_in(width: usize, rows: &[Row], forms: &[Form]) -> usize
-    ensures { result ≡ columns_in width rows.now forms.now }
-{
-    match (rows, forms) {
-        ([row, ..], _) => row.coefs.len(),
-        ([], [form, ..]) => form.coefs.len(),
-        ([], []) => width,
-    }
-}
-
-/// How many columns an obligation of the clause has, with these atoms at its start.
-pub fn columns_over(atoms: &[Atom], clause: &Clause) -> usize
-    ensures { result ≡ columns_over atoms.now clause.now }
-{
-    columns_in(
-        first_width(atoms),
-        clause.rows.as_slice(),
-        clause.after.as_slice(),
-    )
-}
+use horn_clauses::{Atom, Rel};
+use lin_terms::Row;
 
 // ---- the clause
 

@@ -5,10 +5,9 @@ ghost use Rattle.horn_clauses.specs.Clause.{FitsClause};
 ghost use Rattle.horn_clauses.specs.Obligations.{FitsNode};
 ghost use Rattle.coupling_check.specs.Checks.{CanCheckClause, CanCheck};
 
-use crate::parts::columns_in;
 use crate::{check_obligations, checks};
 use c_ast::Place;
-use horn_clauses::{Atom, Clause, Family, Node, Product, Proofs, Rel};
+use horn_clauses::{Atom, Clause, Family, Node, Product, Proofs, Rel, columns_in};
 use lin_terms::{Form, Row, are_fitting_forms};
 use sqlite_items::Items;
 use std::alloc::{AllocError, Global};

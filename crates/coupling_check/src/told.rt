@@ -8,11 +8,10 @@ ghost use Rattle.coupling_check.specs.Told.{coefs_in, told_rows};
 
 use crate::negated::{negated_constant, negated_count, negated_entry};
 use crate::parts::{
-    atom_constant, atom_entry, atom_equality, atoms_or_none, columns_over, row_constant, row_entry,
-    row_equality,
+    atom_constant, atom_entry, atom_equality, row_constant, row_entry, row_equality,
 };
 use farkas_check::Rows;
-use horn_clauses::{Atom, Clause, Family};
+use horn_clauses::{Atom, Clause, Family, atoms_or_none, columns_over};
 use lin_terms::Row;
 
 /// An obligation whose rows are told.

@@ -1,5 +1,6 @@
 pub mod Nodes
 pub mod Values
+pub mod Equal
 pub mod Negated
 pub mod Shapes
 pub mod Refuted

@@ -218,7 +218,8 @@ fn negated_rows(
     Ok(rows)
 }
 
-fn atoms_or_none<'a>(family: &'a Family, node: &Node) -> &'a [Atom]
+/// The atoms of the family at the node; none where it has not the node.
+pub fn atoms_or_none<'a>(family: &'a Family, node: &Node) -> &'a [Atom]
     ensures { result.now ≡ atoms_or_none (atoms_at family.now node.now) }
 {
     match family.at(node) {
@@ -240,7 +241,7 @@ fn first_width(atoms: &[Atom]) -> usize
 }
 
 /// The columns of rows and forms of one length; `width` where there are none.
-pub(crate) fn columns_in(width: usize, rows: &[Row], forms: &[Form]) -> usize
+pub fn columns_in(width: usize, rows: &[Row], forms: &[Form]) -> usize
     ensures { result ≡ columns_in width rows.now forms.now }
 {
     match (rows, forms) {
@@ -250,7 +251,8 @@ pub(crate) fn columns_in(width: usize, rows: &[Row], forms: &[Form]) -> usize
     }
 }
 
-fn columns_over(atoms: &[Atom], clause: &Clause) -> usize
+/// The columns of an obligation of the clause with these atoms at its start.
+pub fn columns_over(atoms: &[Atom], clause: &Clause) -> usize
     ensures { result ≡ columns_over atoms.now clause.now }
 {
     columns_in(

@@ -4,8 +4,8 @@ ghost use Rattle.std.specs.Prelude.{◌≡◌, ◌≤◌, ◌<◌, ◌+◌, ◌^
 ghost use Rattle.sym_paths.specs.Cases.{fitted};
 ghost use Rattle.path_product.specs.Clauses.{zeros};
 
-use crate::compose::columns_in;
 use crate::side::SidePath;
+use horn_clauses::columns_in;
 use lin_terms::{Form, Row};
 use sqlite_items::Items;
 use std::alloc::{AllocError, Global};

@@ -18,6 +18,7 @@ ghost use Rattle.path_product.specs.Compose.{row_over, form_over, ended, unknown
 ghost use Rattle.path_product.specs.Coded.{state_of, came, StopsAt, IsWide, AreOver, HasColumns, AreMade};
 
 use c_ast::Place;
+use horn_clauses::columns_in;
 use lin_terms::{Form, FormFault, Row, compose, tight, variable_form};
 use sqlite_items::Items;
 use std::alloc::{AllocError, Global};
@@ -29,20 +30,6 @@ pub(crate) struct Reached {
     pub place: Place,
     pub columns: u32,
     pub forms: Items<Form>,
-}
-
-/// How many columns rows and forms of one length have: as many as the first of them, or this many
-/// where there is none.
-pub(crate) fn columns_in(width: usize, rows: &[Row], forms: &[Form]) -> usize
-    ensures { result ≡ columns_in width rows.now forms.now }
-{
-    match rows {
-        [row, ..] => row.coefs.len(),
-        [] => match forms {
-            [form, ..] => form.coefs.len(),
-            [] => width,
-        },
-    }
 }
 
 /// How many unknowns the case has, whose start has so many variables.

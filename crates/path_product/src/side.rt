@@ -6,9 +6,10 @@ ghost use Rattle.path_product.specs.Fits.{FitsCase, FitStarts};
 ghost use Rattle.path_product.specs.Sides.{goes_on, at_start, side_from, side_cases};
 ghost use Rattle.path_product.specs.Coded.{state_of, end_of, by_first, by_case, path_of_side, gathered, left_after, IsLimit, CanGoOn};
 
-use crate::compose::{Reached, case_over, columns_in, copied_forms, copied_rows, with_unknowns};
+use crate::compose::{Reached, case_over, copied_forms, copied_rows, with_unknowns};
 use crate::starts::{Start, cases_in, is_same_place, width_in};
 use c_ast::Place;
+use horn_clauses::columns_in;
 use lin_terms::{Form, Row};
 use sqlite_items::Items;
 use std::alloc::{AllocError, Global};

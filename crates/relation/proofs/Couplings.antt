@@ -15,7 +15,8 @@ use Rattle.horn_clauses.specs.Family.{atoms_at}
 use Rattle.horn_clauses.specs.Equalities.{equal_parameters, equal_results}
 use Rattle.horn_clauses.proofs.Laws.{parameters_are_equal, results_are_equal}
 use Rattle.relation.specs.Invariants.{IsInvariant}
-use Rattle.relation.specs.Coupling.{ForcesEqualResults, IsInFamily, IsCoupling, LawOfCouplings, CouplesUnderEach}
+use Rattle.horn_clauses.specs.Equalities.{ForcesEqualResults}
+use Rattle.relation.specs.Coupling.{IsInFamily, IsCoupling, LawOfCouplings, CouplesUnderEach}
 use Rattle.relation.proofs.Following.{invariants_force}
 
 -- Where both sides have the same inputs, all atoms at the entries hold.

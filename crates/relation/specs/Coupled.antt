@@ -20,7 +20,8 @@ use Rattle.path_product.specs.Agreement.{IsProduct}
 use Rattle.coupling_check.specs.Checks.{Checks, FailsAt}
 use Rattle.relation.specs.declared.not_coupled.NotCoupled.{NotCoupled}
 use Rattle.relation.specs.declared.not_coupled.NotCoupled.TheVariants.{Limit, Shape, AtEntry, AtExit, Obligation, Memory}
-use Rattle.relation.specs.Coupling.{BeginsEqual, EndsEqual, IsCoupling}
+use Rattle.horn_clauses.specs.Equalities.{BeginsEqual, EndsEqual}
+use Rattle.relation.specs.Coupling.{IsCoupling}
 use Rattle.relation.specs.Linear.{HasShape, IsFamilyOver, IsLinear}
 
 -- ---- the product of a comparison

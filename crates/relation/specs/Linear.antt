@@ -6,10 +6,11 @@ use Rattle.flow_graph.specs.Built.{IsGraphOf}
 use Rattle.horn_clauses.specs.declared.clause.Product.{Product}
 use Rattle.horn_clauses.specs.declared.family.Family.{Family}
 use Rattle.horn_clauses.specs.declared.node.Node.{Node}
-use Rattle.horn_clauses.specs.Obligations.{FitsNode, Obligation, rows_of, obligations_of, AreRefuted}
-use Rattle.farkas_check.specs.Refutes.{IsRefutable}
+use Rattle.horn_clauses.specs.Obligations.{FitsNode, Obligation, obligations_of, AreRefuted}
+use Rattle.coupling_check.specs.Checks.{AreRefutable}
 use Rattle.path_product.specs.Agreement.{IsProduct}
-use Rattle.relation.specs.Coupling.{BeginsEqual, EndsEqual, IsCoupling}
+use Rattle.horn_clauses.specs.Equalities.{BeginsEqual, EndsEqual}
+use Rattle.relation.specs.Coupling.{IsCoupling}
 
 -- How many values both sides have at the node.
 abbrev pub node_width : FlowGraph → FlowGraph → Node → ℕ
@@ -26,10 +27,6 @@ pub record IsFamilyOver (first second : FlowGraph) (product : Product) (family :
   pub shape : HasShape first second product family
   pub at_entries : BeginsEqual first.params family
   pub at_exits : EndsEqual family
-
--- Some multipliers refute the rows of each of the obligations.
-abbrev pub AreRefutable : Family → List Obligation → Type 0
-AreRefutable family obligations = All (λ obligation. IsRefutable (rows_of family obligation)) obligations
 
 -- The family is one over the product, and multipliers refute each of its obligations.
 pub record IsLinear (first second : FlowGraph) (product : Product) (family : Family) : Type 0 where

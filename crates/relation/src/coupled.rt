@@ -6,12 +6,12 @@ ghost use Rattle.relation.specs.Linear.{IsFamilyOver};
 ghost use Rattle.relation.specs.Coupled.{HasSmallAtoms, IsRefused, at_limit};
 
 use crate::NotCoupled;
-use crate::family::{begins_equal, ends_equal, has_shape};
+use crate::family::has_shape;
 use alignment::Alignment;
 use c_ast::Subject;
 use coupling_check::check_obligations;
 use flow_graph::{Graph, build};
-use horn_clauses::{Family, Product, Proofs};
+use horn_clauses::{Family, Product, Proofs, begins_equal, ends_equal};
 use path_product::{ProductLimit, product_under};
 use sqlite_items::Items;
 use std::alloc::{AllocError, Global};

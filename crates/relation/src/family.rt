@@ -3,12 +3,9 @@ ghost use Rattle.std.specs.Prelude.{◌≡◌, ◌↔◌, ◌≤◌, IsTrue, All
 ghost use Rattle.lin_terms.specs.Bounds.{FitsForm};
 ghost use Rattle.horn_clauses.specs.Obligations.{FitsNode};
 ghost use Rattle.path_product.specs.Agreement.{HasNode};
-ghost use Rattle.relation.specs.Coupling.{BeginsEqual, EndsEqual};
 ghost use Rattle.relation.specs.Linear.{node_width, HasShape};
 ghost use Rattle.relation.specs.Coupled.{IsSmallAtom, HasSmallAtoms};
 
-use crate::atoms::{are_equal_parameters, force_equal_results};
-use c_ast::Place;
 use flow_graph::Graph;
 use horn_clauses::{Atom, Family, Node, Product};
 use lin_terms::fits_form;
@@ -120,26 +117,4 @@ pub(crate) fn has_shape(first: &Graph, second: &Graph, product: &Product, family
         }
     }
     true
-}
-
-// ---- the entries and the exits
-
-/// Whether the family says at the two entries exactly that the parameters are equal, pairwise.
-pub(crate) fn begins_equal(count: u32, family: &Family) -> bool
-    ensures { IsTrue result ↔ BeginsEqual count family.now }
-{
-    match family.at(&Node(Place::Entry, Place::Entry)) {
-        Some(atoms) => are_equal_parameters(count, atoms),
-        None => false,
-    }
-}
-
-/// Whether the family forces equal results at the two exits.
-pub(crate) fn ends_equal(family: &Family) -> bool
-    ensures { IsTrue result ↔ EndsEqual family.now }
-{
-    match family.at(&Node(Place::Exit, Place::Exit)) {
-        Some(atoms) => force_equal_results(atoms),
-        None => false,
-    }
 }

@@ -11,11 +11,10 @@
 //! over its nodes is kept where the obligations of its clauses are refuted (`specs/Linear.antt`).
 //!
 //! `Coupled` is a comparison of two functions with a family that was found to be such a coupling
-//! (`specs/Coupled.antt`): the product is made, the family's form is tested (`family`, `atoms`),
+//! (`specs/Coupled.antt`): the product is made, the family's form is tested (`family`),
 //! and its obligations are checked by the multipliers that come with it.
 #![tactic(auto)]
 
-mod atoms;
 mod coupled;
 mod family;
 mod law;

@@ -2,8 +2,8 @@ use Rattle.std.proofs.Common.{rules, arith, ◌∙◌, List, length, get_or, sym
 use Rattle.std.proofs.lemmas.List.{take_more_same}
 use Rattle.horn_clauses.specs.declared.atom.Atom.{Atom}
 use Rattle.horn_clauses.specs.Equalities.{equal_parameters}
-use Rattle.relation.proofs.Shaping.{length-equal_parameters, get_or-equal_parameters, same_front}
-use Rattle.relation.proofs.atoms.are_equal_parameters.Goals as goal
+use Rattle.horn_clauses.proofs.Equal.{length-equal_parameters, get_or-equal_parameters, same_front}
+use Rattle.horn_clauses.proofs.equalities.are_equal_parameters.Goals as goal
 
 pub returns-then-atoms-count : goal.returns-then-atoms-count
 returns-then-atoms-count c = (

@@ -2,7 +2,7 @@ use Rattle.std.proofs.Common.{ℕ, ◌<◌, ◌≢◌, get_or}
 use Rattle.horn_clauses.specs.declared.atom.Atom.{Atom}
 use Rattle.horn_clauses.specs.declared.atom.Atom.TheVariants.{False}
 use Rattle.horn_clauses.specs.Equalities.{equal_results}
-use Rattle.relation.proofs.atoms.force_equal_results.Given as goal
+use Rattle.horn_clauses.proofs.equalities.force_equal_results.Given as goal
 
 abbrev pub invariant-loop-atom : goal.invariant-loop-atom
 invariant-loop-atom l =

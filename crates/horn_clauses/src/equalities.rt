@@ -1,11 +1,12 @@
-//! Whether atoms say that both sides have the same values.
+//! Whether a family says that both sides have the same values where they begin and where they end.
 ghost use Rattle.std.specs.Prelude.{◌≡◌, ◌↔◌, ◌<◌, ◌+◌, ◌++◌, pos, negsuc, slice_index_or, IsTrue};
 ghost use Rattle.lin_terms.specs.Vectors.{only_at};
-ghost use Rattle.horn_clauses.specs.Equalities.{equality_at, equal_parameters};
 ghost use Rattle.horn_clauses.specs.declared.atom.Atom.TheVariants.{False};
-ghost use Rattle.relation.specs.Coupling.{ForcesEqualResults};
+ghost use Rattle.horn_clauses.specs.Equalities.{equality_at, equal_parameters};
+ghost use Rattle.horn_clauses.specs.Equalities.{ForcesEqualResults, BeginsEqual, EndsEqual};
 
-use horn_clauses::{Atom, Rel};
+use crate::{Atom, Family, Node, Rel};
+use c_ast::Place;
 
 /// Whether the coefficient is the one at `j` in the equality of the values at `i`, of `count` on
 /// each side.
@@ -69,7 +70,7 @@ fn is_equality_at(count: u32, i: usize, atom: &Atom) -> bool
 }
 
 /// Whether these are the equalities of so many parameters, in their order.
-pub(crate) fn are_equal_parameters(count: u32, atoms: &[Atom]) -> bool
+fn are_equal_parameters(count: u32, atoms: &[Atom]) -> bool
     ensures { IsTrue result ↔ (atoms.now ≡ equal_parameters count) }
 {
     if atoms.len() != count as usize {
@@ -93,7 +94,7 @@ fn is_false(atom: &Atom) -> bool
 }
 
 /// Whether the equality of the results or `false` is among them.
-pub(crate) fn force_equal_results(atoms: &[Atom]) -> bool
+fn force_equal_results(atoms: &[Atom]) -> bool
     ensures { IsTrue result ↔ ForcesEqualResults atoms.now }
 {
     for atom in atoms {
@@ -102,4 +103,24 @@ pub(crate) fn force_equal_results(atoms: &[Atom]) -> bool
         }
     }
     false
+}
+
+/// Whether the family says at the two entries exactly that the parameters are equal, pairwise.
+pub fn begins_equal(count: u32, family: &Family) -> bool
+    ensures { IsTrue result ↔ BeginsEqual count family.now }
+{
+    match family.at(&Node(Place::Entry, Place::Entry)) {
+        Some(atoms) => are_equal_parameters(count, atoms),
+        None => false,
+    }
+}
+
+/// Whether the family forces equal results at the two exits.
+pub fn ends_equal(family: &Family) -> bool
+    ensures { IsTrue result ↔ EndsEqual family.now }
+{
+    match family.at(&Node(Place::Exit, Place::Exit)) {
+        Some(atoms) => force_equal_results(atoms),
+        None => false,
+    }
 }

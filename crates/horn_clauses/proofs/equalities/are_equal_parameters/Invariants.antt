@@ -1,6 +1,6 @@
 use Rattle.std.proofs.Common.{◌≡◌, take, length}
 use Rattle.horn_clauses.specs.Equalities.{equal_parameters}
-use Rattle.relation.proofs.atoms.are_equal_parameters.Given as goal
+use Rattle.horn_clauses.proofs.equalities.are_equal_parameters.Given as goal
 
 abbrev pub invariant-loop-i : goal.invariant-loop-i
 invariant-loop-i l = record {

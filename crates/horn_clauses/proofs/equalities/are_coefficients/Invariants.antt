@@ -1,6 +1,6 @@
 use Rattle.std.proofs.Common.{◌≡◌, ◌+◌, ◌++◌, take, length, pos, negsuc}
 use Rattle.lin_terms.specs.Vectors.{only_at}
-use Rattle.relation.proofs.atoms.are_coefficients.Given as goal
+use Rattle.horn_clauses.proofs.equalities.are_coefficients.Given as goal
 
 abbrev pub invariant-loop-j : goal.invariant-loop-j
 invariant-loop-j l = record {
