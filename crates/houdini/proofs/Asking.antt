@@ -25,7 +25,7 @@ use Rattle.houdini.specs.declared.pass.Unproved.{Unproved}
 use Rattle.houdini.specs.declared.pass.Unproved.TheVariants as unproved
 use Rattle.houdini.specs.declared.pass.Ending.{Ending}
 use Rattle.houdini.specs.declared.pass.Ending.TheVariants as ending
-use Rattle.houdini.specs.Linear.{AreRefutable}
+use Rattle.coupling_check.specs.Checks.{AreRefutable}
 use Rattle.houdini.specs.Answers.{IsLimitOf, MeetsLimit}
 use Rattle.houdini.specs.Pass.{IsCause, IsCauseOfUnproved, IsCauseOfEnding, AnswersRows, Adds, StopsAt, AnswersObligations, IsOpenIn, AnswersAtoms, AnswersClauses, ending_of, is_equality_atom}
 use Rattle.houdini.proofs.Strikes.{first_of_all, second_of_all}

@@ -8,12 +8,12 @@ use Rattle.horn_clauses.specs.declared.clause.Proofs.{Proofs}
 use Rattle.horn_clauses.specs.declared.family.Family.{Family}
 use Rattle.horn_clauses.specs.Node.{entries, exits}
 use Rattle.horn_clauses.specs.Family.{atoms_at}
-use Rattle.horn_clauses.specs.Equalities.{equal_results}
+use Rattle.horn_clauses.specs.Equalities.{ForcesEqualResults, EndsEqual, equal_results}
 use Rattle.horn_clauses.specs.Obligations.{atoms_or_none}
 use Rattle.coupling_check.specs.Checks.{Checks}
 use Rattle.coupling_check.proofs.Laws.{checked_is_refutable}
 use Rattle.houdini.specs.Within.{IsSublist}
-use Rattle.houdini.specs.Linear.{SaysEqualResults, IsLinearWithin, ContainsLinear, Narrows}
+use Rattle.houdini.specs.Linear.{IsLinearWithin, ContainsLinear, Narrows}
 use Rattle.elimination.specs.declared.answer.Limit.{Limit}
 use Rattle.houdini.specs.declared.search.Round.{Round}
 use Rattle.houdini.specs.declared.search.Round.TheVariants as round
@@ -27,11 +27,11 @@ pub contains_linear : (product : Product) (candidates left : Family) → Narrows
     → ContainsLinear product candidates left
 contains_linear product candidates left narrows family linear = (narrows.linear family linear).within
 
-says_within : (xs ys : List Atom) → IsSublist xs ys → SaysEqualResults xs → SaysEqualResults ys
+says_within : (xs ys : List Atom) → IsSublist xs ys → ForcesEqualResults xs → ForcesEqualResults ys
 says_within xs ys sub (inl equal) = inl (sublist_contains xs ys equal_results sub equal)
 says_within xs ys sub (inr never) = inr (sublist_contains xs ys False sub never)
 
-says_at : (xs ys : Option (List Atom)) → AreAtomsWithin xs ys → IsSomeAnd xs SaysEqualResults → IsSomeAnd ys SaysEqualResults
+says_at : (xs ys : Option (List Atom)) → AreAtomsWithin xs ys → IsSomeAnd xs ForcesEqualResults → IsSomeAnd ys ForcesEqualResults
 says_at None ys within says = absurd says
 says_at (Some xs) None within says = absurd within
 says_at (Some xs) (Some ys) within says = says_within xs ys within says
@@ -68,7 +68,7 @@ all_at_entries product candidates left narrows many =
 -- What is left is the greatest linear family, once it has all atoms of the entries, one of the two at the exits, and
 -- proofs of its obligations.
 pub greatest_of : (product : Product) (candidates left : Family) (proofs : Proofs) → Narrows product candidates left
-    → atoms_at left entries ≡ atoms_at candidates entries → IsSomeAnd (atoms_at left exits) SaysEqualResults
+    → atoms_at left entries ≡ atoms_at candidates entries → EndsEqual left
     → Checks product left proofs → IsGreatest product candidates left proofs
 greatest_of product candidates left proofs narrows at_entries at_exits checks = record {
   linear = record {
@@ -97,12 +97,17 @@ pub struck_is : (product : Product) (left : Family) (most : ℕ) (result : Round
     → AnswersRound product left most result → result ≡ round.Struck fewer → IsStruck product left fewer
 struck_is product left most result fewer answers is = subst (λ (r : Round). AnswersRound product left most r) is answers
 
--- What is left contains all linear families where an obligation has a limit.
-pub ends_at_limit : (product : Product) (candidates left : Family) (most : ℕ) (result : Round) (number : ℕ) (last : Family) (limit : Limit)
-    → Narrows product candidates left → AnswersRound product left most result → result ≡ round.Limited number last limit
-    → EndsAtLimit product candidates most number last limit
-ends_at_limit product candidates left most result number last limit narrows answers is =
+-- What is left has all atoms of the entries, and contains all linear families, where an obligation has a limit.
+pub ends_at_limit : (product : Product) (candidates left : Family) (at_entries most : ℕ) (result : Round) (number : ℕ) (last : Family) (limit : Limit)
+    → at_entries ≡ length (atoms_or_none (atoms_at candidates entries)) → Narrows product candidates left → MayCouple left at_entries
+    → AnswersRound product left most result → result ≡ round.Limited number last limit → EndsAtLimit product candidates most number last limit
+ends_at_limit product candidates left at_entries most result number last limit counted narrows couples answers is =
     let parts : AnswersRound product left most (round.Limited number last limit) =
     subst (λ (r : Round). AnswersRound product left most r) is answers in
     subst (λ (f : Family). EndsAtLimit product candidates most number f limit) (sym parts.0)
-    (record { within = narrows.within; contains = contains_linear product candidates left narrows; limited = parts.1 })
+    (record {
+      within = narrows.within;
+      at_entries = all_at_entries product candidates left narrows (omega (arith, couples.many, counted));
+      contains = contains_linear product candidates left narrows;
+      limited = parts.1;
+    })

@@ -20,7 +20,7 @@ use Rattle.horn_clauses.specs.declared.family.Family.{Family}
 use Rattle.horn_clauses.specs.Family.{atoms_at}
 use Rattle.horn_clauses.specs.Obligations.{Obligation, rows_of, atom_row, negated_row, negated_rows, side_of, columns_over, atoms_or_none}
 use Rattle.houdini.specs.Within.{IsSublist, IsWithin}
-use Rattle.houdini.specs.Linear.{AreRefutable}
+use Rattle.coupling_check.specs.Checks.{AreRefutable}
 use Rattle.houdini.proofs.Within.{atoms_within, sublist_at}
 
 -- ---- rows that are alike

@@ -13,7 +13,8 @@ use Rattle.horn_clauses.specs.Node.{entries, is_same_node}
 use Rattle.horn_clauses.specs.Family.{atoms_among, atoms_at}
 use Rattle.horn_clauses.specs.Obligations.{Obligation, rows_of, atoms_or_none, obligations_at, obligations_for, obligations_of}
 use Rattle.houdini.specs.Within.{IsSublist, AreWithin, IsWithin}
-use Rattle.houdini.specs.Linear.{AreRefutable, ContainsLinear, Narrows}
+use Rattle.coupling_check.specs.Checks.{AreRefutable}
+use Rattle.houdini.specs.Linear.{ContainsLinear, Narrows}
 use Rattle.houdini.specs.Striking.{IsShown, LeavesOut, Either, StrikesAmong, Strikes}
 use Rattle.houdini.proofs.Sublists.{sublist_of_itself, left_is_sublist, sublist_of_left}
 use Rattle.houdini.proofs.Within.{within_itself, within_goes_on, atoms_within, atoms_between}

@@ -7,6 +7,8 @@ use Rattle.elimination.specs.Eliminated.{eliminated}
 use Rattle.horn_clauses.specs.declared.clause.Product.{Product}
 use Rattle.horn_clauses.specs.declared.clause.Proofs.{Proofs}
 use Rattle.horn_clauses.specs.declared.family.Family.{Family}
+use Rattle.horn_clauses.specs.Node.{entries}
+use Rattle.horn_clauses.specs.Family.{atoms_at}
 use Rattle.horn_clauses.specs.Obligations.{Obligation, rows_of, obligations_of}
 use Rattle.coupling_check.specs.Checks.{Checks}
 use Rattle.houdini.specs.declared.search.Outcome.{Outcome}
@@ -31,10 +33,12 @@ pub record MeetsLimit (product : Product) (family : Family) (cap number : ℕ) (
   pub numbered : slice_get (obligations_of family product) number ≡ Some asked
   pub limited : IsLimitOf (rows_of family asked) cap limit
 
--- What is left is one of the candidates, contains every linear family of them, and has an obligation with a limit.
+-- What is left is one of the candidates, with all of those at the entries, contains every linear family of them, and
+-- has an obligation with a limit.
 pub record EndsAtLimit (product : Product) (candidates : Family) (cap number : ℕ) (left : Family) (limit : Limit)
     : Type 0 where
   pub within : IsWithin left candidates
+  pub at_entries : atoms_at left entries ≡ atoms_at candidates entries
   pub contains : ContainsLinear product candidates left
   pub limited : MeetsLimit product left cap number limit
 

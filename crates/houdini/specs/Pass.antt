@@ -18,7 +18,7 @@ use Rattle.houdini.specs.declared.pass.Unproved.{Unproved}
 use Rattle.houdini.specs.declared.pass.Unproved.TheVariants as unproved
 use Rattle.houdini.specs.declared.pass.Ending.{Ending}
 use Rattle.houdini.specs.declared.pass.Ending.TheVariants as ending
-use Rattle.houdini.specs.Linear.{AreRefutable}
+use Rattle.coupling_check.specs.Checks.{AreRefutable}
 use Rattle.houdini.specs.Striking.{IsShown}
 use Rattle.houdini.specs.Answers.{IsLimitOf}
 

@@ -1,21 +1,22 @@
 -- One round of a search.
-use Rattle.std.specs.Prelude.{◌≡◌, ℕ, ◌<◌, ◌≤◌, length, IsSomeAnd}
+use Rattle.std.specs.Prelude.{◌≡◌, ℕ, ◌<◌, ◌≤◌, length}
 use Rattle.horn_clauses.specs.declared.clause.Product.{Product}
 use Rattle.horn_clauses.specs.declared.family.Family.{Family}
-use Rattle.horn_clauses.specs.Node.{entries, exits}
+use Rattle.horn_clauses.specs.Node.{entries}
 use Rattle.horn_clauses.specs.Family.{atoms_at}
+use Rattle.horn_clauses.specs.Equalities.{EndsEqual}
 use Rattle.horn_clauses.specs.Obligations.{atoms_or_none}
 use Rattle.coupling_check.specs.Checks.{Checks}
 use Rattle.houdini.specs.declared.search.Round.{Round}
 use Rattle.houdini.specs.declared.search.Round.TheVariants as round
-use Rattle.houdini.specs.Linear.{SaysEqualResults, Narrows}
+use Rattle.houdini.specs.Linear.{Narrows}
 use Rattle.houdini.specs.Striking.{count_atoms}
 use Rattle.houdini.specs.Answers.{MeetsLimit}
 
 -- The family has as many atoms at the entries, and says at the exits that the results are equal.
 pub record MayCouple (family : Family) (at_entries : ℕ) : Type 0 where
   pub many : at_entries ≤ length (atoms_or_none (atoms_at family entries))
-  pub at_exits : IsSomeAnd (atoms_at family exits) SaysEqualResults
+  pub at_exits : EndsEqual family
 
 -- The second family is narrower, and has fewer atoms.
 pub record IsStruck (product : Product) (family left : Family) : Type 0 where

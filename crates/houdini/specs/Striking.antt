@@ -6,7 +6,7 @@ use Rattle.horn_clauses.specs.declared.family.Family.{Family}
 use Rattle.horn_clauses.specs.declared.node.Node.{Node}
 use Rattle.horn_clauses.specs.Node.{is_same_node}
 use Rattle.horn_clauses.specs.Obligations.{obligations_at}
-use Rattle.houdini.specs.Linear.{AreRefutable}
+use Rattle.coupling_check.specs.Checks.{AreRefutable}
 
 -- The atom holds at the clause's end, as the family's atoms at its start show: its obligations are refutable.
 abbrev pub IsShown : Family → Clause → Atom → Type 0

@@ -9,7 +9,7 @@ ghost use Rattle.houdini.specs.Pass.{IsCauseOfUnproved, IsCauseOfEnding, Answers
 
 use crate::Stop;
 use elimination::{Answer, Limit};
-use horn_clauses::{Atom, Clause, Family, Node, Rel, obligation_rows};
+use horn_clauses::{Atom, Clause, Family, Node, Rel, atoms_or_none, obligation_rows};
 use lin_prover::prove;
 use lin_terms::{MOST_ROWS, Row};
 use re_base::Watch;
@@ -214,16 +214,6 @@ fn ask_atoms<W: Watch>(
         }
     }
     Ok(())
-}
-
-/// The family's atoms at the node, and none where it lacks the node.
-pub fn atoms_or_none<'a>(family: &'a Family, node: &Node) -> &'a [Atom]
-    ensures { result.now ≡ atoms_or_none (atoms_at family.now node.now) }
-{
-    match family.at(node) {
-        Some(atoms) => atoms,
-        None => &[],
-    }
 }
 
 /// The same of the clause with this number, in the order of the family's atoms at its end.

@@ -1,7 +1,7 @@
 use Rattle.std.proofs.Common.{arith}
 use Rattle.houdini.proofs.Within.{can_check_within}
 use Rattle.houdini.proofs.Strikes.{narrows_on}
-use Rattle.houdini.proofs.Ends.{none_is_linear, proved_is_greatest, struck_is}
+use Rattle.houdini.proofs.Ends.{none_is_linear, proved_is_greatest, struck_is, ends_at_limit}
 use Rattle.houdini.proofs.search.greatest.Goals as goal
 
 pub loop-alloc-init : goal.loop-alloc-init
@@ -16,6 +16,12 @@ returns-in-Proved-clause-answers g c =
     proved_is_greatest c.args.product.now c.args.candidates c.loop-alloc.left c.count_at_entries-at_entries.result c.args.cap _ c.in-Proved.family
     c.in-Proved.proofs c.count_at_entries-at_entries.ensures c.loop-alloc.invariant.narrows (c.may_couple.ensures.0 c.loop-alloc-test.true)
     c.in_ok-family.ensures.answers c.in-Proved.is
+
+pub returns-in-Limited-clause-answers : goal.returns-in-Limited-clause-answers
+returns-in-Limited-clause-answers g c =
+    ends_at_limit c.args.product.now c.args.candidates c.loop-alloc.left c.count_at_entries-at_entries.result c.args.cap _ c.in-Limited.obligation
+    c.in-Limited.left c.in-Limited.limit c.count_at_entries-at_entries.ensures c.loop-alloc.invariant.narrows
+    (c.may_couple.ensures.0 c.loop-alloc-test.true) c.in_ok-family.ensures.answers c.in-Limited.is
 
 pub loop-alloc-preserved : goal.loop-alloc-preserved
 loop-alloc-preserved g c = record {
