@@ -5,4 +5,5 @@ pub use Rattle.miners.proofs.CandidatesAre.{wide_nodes_say_nothing, candidates_a
 pub use Rattle.miners.proofs.Points.{points_have_one_length}
 pub use Rattle.miners.proofs.TenLeast.{law_of_bound_constants, law_of_ten_least}
 pub use Rattle.miners.proofs.InOrder.{candidates_are_in_order}
+pub use Rattle.miners.proofs.OneWay.{before_asymmetric}
 pub use Rattle.miners.proofs.Families.{gathered_is_mined}

@@ -11,6 +11,7 @@ pub mod Points
 pub mod TenLeast
 pub mod CandidatesAre
 pub mod InOrder
+pub mod OneWay
 pub mod Laws
 pub mod Samples
 pub mod Placed

@@ -12,7 +12,7 @@ use Rattle.horn_clauses.specs.Equalities.{equal_parameters}
 use Rattle.horn_clauses.specs.Obligations.{FitsNode}
 use Rattle.walks.specs.Laws.{FitsFunctions}
 use Rattle.miners.specs.Constants.{is_further, ten_least, bound_constants}
-use Rattle.miners.specs.Template.{IsTemplateAtom, AreInOrder, AreRising}
+use Rattle.miners.specs.Template.{IsTemplateAtom, AtomStandsBefore, AreInOrder, AreRising}
 use Rattle.miners.specs.Mined.{struck, mined}
 use Rattle.miners.specs.Candidates.{points_at, candidates_at}
 
@@ -124,6 +124,12 @@ CandidatesFit = (alignment : ℕ) (f g : Program) (params : ℕ) (pairs : List P
 -- At the entries they fit the parameters of both sides.
 abbrev pub EntriesFit : Type 0
 EntriesFit = (params : ℕ) → All (FitsNode (params + params)) (equal_parameters params)
+
+-- ---- their order
+
+-- Of two atoms at most one stands before the other.
+abbrev pub OrderGoesOneWay : Type 0
+OrderGoesOneWay = (first second : Atom) → AtomStandsBefore first second → AtomStandsBefore second first → ⊥
 
 -- ---- constants
 

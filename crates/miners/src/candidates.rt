@@ -22,6 +22,7 @@ impl Model for Candidates {
 impl Candidates {
     ghost use Rattle.horn_clauses.specs.Family.{atoms_at};
 
+    /// The candidates that stand in the family.
     pub(crate) fn of(family: Family) -> Candidates
         ensures { result ≡ family }
     {

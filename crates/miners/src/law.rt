@@ -1,18 +1,19 @@
 //! Laws of the definitions alone. Each is the contract of a function that does nothing.
 //! `specs/Laws.antt` states them.
-ghost use Rattle.miners.specs.Laws.{MinesCandidates, OneListOfCandidates, MiningGoesOn, HadPointsStrikeNothing};
+ghost use Rattle.miners.specs.Laws.{MinesCandidates, OneListOfCandidates, MiningGoesOn, HadPointsStrikeNothing, OrderGoesOneWay};
 ghost use Rattle.miners.specs.Laws.{CandidatesAreMined, HoldingAtomsAreCandidates, UnmetNodesHaveNone, CandidatesAreInOrder};
 ghost use Rattle.miners.specs.Laws.{WideNodesSayNothing, MorePairsAddNone, CandidatesAreDetermined, PointsHaveOneLength, CandidatesFit, EntriesFit};
 ghost use Rattle.miners.specs.Laws.{LawOfBoundConstants, LawOfTenLeast};
 
 /// What is mined of points are exactly the atoms of the template that hold at all of them, in
 /// order and each once; no other list is so. Points may come one after the other, and one that was
-/// had strikes nothing.
+/// had strikes nothing. The order goes one way.
 pub fn law_of_mining()
     ensures exact { MinesCandidates }
     ensures alone { OneListOfCandidates }
     ensures goes_on { MiningGoesOn }
     ensures had { HadPointsStrikeNothing }
+    ensures one_way { OrderGoesOneWay }
 {}
 
 /// The candidates at a node that is met are exactly the atoms of the template that hold at all

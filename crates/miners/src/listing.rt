@@ -6,13 +6,19 @@ ghost use Rattle.miners.specs.Sparse.{coef_of, coefs_of, ended, ended_with, all_
 use crate::shape::{Coef, Kind, Shape, Term};
 use std::alloc::{AllocError, Global};
 
-/// Adds the shape with one more coefficient, where it may have it there.
-fn add_next(made: &mut Vec<Shape>, shape: &Shape, kind: Kind, term: Term) -> Result<(), AllocError>
-    ensures { OnOk result ((n k : ℕ) → all_ended kind n (suc term.index) k made.new.items
-        ≡ all_ended kind n (suc term.index) k made.old.items
-        ++ ended_with kind n term.index k shape.now (coef_of term.coef)) }
+/// Adds the shape with one more coefficient at this place, where it may have it there.
+fn add_next(
+    made: &mut Vec<Shape>,
+    shape: &Shape,
+    kind: Kind,
+    index: u8,
+    coef: Coef,
+) -> Result<(), AllocError>
+    ensures { OnOk result ((n k : ℕ) → all_ended kind n (suc index) k made.new.items
+        ≡ all_ended kind n (suc index) k made.old.items
+        ++ ended_with kind n index k shape.now (coef_of coef)) }
 {
-    match shape.go_on(kind, term) {
+    match shape.go_on(kind, Term { index, coef }) {
         None => Ok(()),
         Some(next) => {
             made.push(next)?;
@@ -26,51 +32,11 @@ fn add_nexts(made: &mut Vec<Shape>, shape: &Shape, kind: Kind, index: u8) -> Res
     ensures { OnOk result ((n k : ℕ) → all_ended kind n (suc index) k made.new.items
         ≡ all_ended kind n (suc index) k made.old.items ++ ended kind n index (suc k) shape.now) }
 {
-    add_next(
-        made,
-        shape,
-        kind,
-        Term {
-            index,
-            coef: Coef::Two,
-        },
-    )?;
-    add_next(
-        made,
-        shape,
-        kind,
-        Term {
-            index,
-            coef: Coef::One,
-        },
-    )?;
-    add_next(
-        made,
-        shape,
-        kind,
-        Term {
-            index,
-            coef: Coef::Zero,
-        },
-    )?;
-    add_next(
-        made,
-        shape,
-        kind,
-        Term {
-            index,
-            coef: Coef::MinusOne,
-        },
-    )?;
-    add_next(
-        made,
-        shape,
-        kind,
-        Term {
-            index,
-            coef: Coef::MinusTwo,
-        },
-    )?;
+    add_next(made, shape, kind, index, Coef::Two)?;
+    add_next(made, shape, kind, index, Coef::One)?;
+    add_next(made, shape, kind, index, Coef::Zero)?;
+    add_next(made, shape, kind, index, Coef::MinusOne)?;
+    add_next(made, shape, kind, index, Coef::MinusTwo)?;
     Ok(())
 }
 
