@@ -34,7 +34,8 @@ listed_drawn R (x ∷ xs) (y ∷ ys) (inl same) listed =
     (subst (λ z. Each (R z) xs) (sym same.0) (each_drawn (R y) xs ys same.1 listed.0), listed_drawn R xs ys same.1 listed.1)
 listed_drawn R (x ∷ xs) (y ∷ ys) (inr drawn) listed = listed_drawn R (x ∷ xs) ys drawn listed.1
 
-past_first : {A : Type 0} (R : A → A → Type 0) → Asymmetric R → (x y a : A) (ys : List A) → x ≡ y → R x a → IsOneOf a (y ∷ ys) → IsOneOf a ys
+past_first : {A : Type 0} (R : A → A → Type 0) → Asymmetric R → (x y a : A) (ys : List A) → x ≡ y → R x a → IsOneOf a (y ∷ ys)
+    → IsOneOf a ys
 past_first R once x y a ys same before (inl one) = let twice = subst (R x) (one ∙ sym same) before in absurd (once x x twice twice)
 past_first R once x y a ys same before (inr one) = one
 

@@ -1,7 +1,7 @@
 -- Lists by recursion: what all elements have, which elements there are, and lists in an order.
-use Rattle.std.proofs.Common.{◌≡◌, ℕ, zero, suc, ◌<◌, ◌⊎◌, inl, inr, List, [], ◌∷◌, ◌++◌, length, get_or, flat_map, arith, refl, sym, subst}
+use Rattle.std.proofs.Common.{◌≡◌, ℕ, zero, suc, ◌<◌, ◌⊎◌, inl, inr, List, [], ◌∷◌, ◌++◌, length, take, get_or, flat_map, arith, refl, sym, subst}
 use Rattle.std.specs.Prelude.{All, AllPairs, Contains}
-use Rattle.std.specs.List.{AllByRecursion}
+use Rattle.std.specs.List.{AllByRecursion, AllZip}
 use Rattle.std.proofs.lemmas.List.Elements.{All-from_recursion, recursion_from_All}
 
 -- The property holds of each element.
@@ -49,6 +49,33 @@ listed_of R (x ∷ xs) h = (
   each_of (R x) xs (λ j d inside. h 0 (suc j) d (omega arith) (omega (arith, inside))),
   listed_of R xs (λ i j d below inside. h (suc i) (suc j) d (omega (arith, below)) (omega (arith, inside))),
 )
+
+pub pairs_of_listed : {A : Type 0} (R : A → A → Type 0) (xs : List A) → IsListed R xs → AllPairs R xs
+pairs_of_listed R [] listed i j d below inside = absurd (omega (arith, inside))
+pairs_of_listed R (x ∷ xs) listed zero zero d below inside = absurd (omega (arith, below))
+pairs_of_listed R (x ∷ xs) listed zero (suc j) d below inside = all_of (R x) xs listed.0 j d (omega (arith, inside))
+pairs_of_listed R (x ∷ xs) listed (suc i) zero d below inside = absurd (omega (arith, below))
+pairs_of_listed R (x ∷ xs) listed (suc i) (suc j) d below inside =
+    pairs_of_listed R xs listed.1 i j d (omega (arith, below)) (omega (arith, inside))
+
+-- ---- the first elements
+
+pub each_front : {A : Type 0} (P : A → Type 0) (m : ℕ) (xs : List A) → Each P xs → Each P (take m xs)
+each_front P zero xs each = tt
+each_front P (suc m) [] each = tt
+each_front P (suc m) (x ∷ xs) each = (each.0, each_front P m xs each.1)
+
+pub listed_front : {A : Type 0} (R : A → A → Type 0) (m : ℕ) (xs : List A) → IsListed R xs → IsListed R (take m xs)
+listed_front R zero xs listed = tt
+listed_front R (suc m) [] listed = tt
+listed_front R (suc m) (x ∷ xs) listed = (each_front (R x) m xs listed.0, listed_front R m xs listed.1)
+
+pub zip_front : {A B : Type 0} (R : A → B → Type 0) (m : ℕ) (xs : List A) (ys : List B) → AllZip R xs ys → AllZip R (take m xs) (take m ys)
+zip_front R zero xs ys zip = tt
+zip_front R (suc m) [] [] zip = tt
+zip_front R (suc m) [] (y ∷ ys) zip = absurd zip
+zip_front R (suc m) (x ∷ xs) [] zip = absurd zip
+zip_front R (suc m) (x ∷ xs) (y ∷ ys) zip = (zip.0, zip_front R m xs ys zip.1)
 
 -- ---- each element
 

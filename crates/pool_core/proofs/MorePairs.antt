@@ -22,7 +22,7 @@ use Rattle.miners.specs.Candidates.{points_at, candidates_at, constants_for}
 use Rattle.miners.specs.Laws.{ArePart}
 use Rattle.miners.proofs.Laws.{unmet_nodes_have_none, more_pairs_add_none, candidates_are_in_order, points_have_one_length, law_of_bound_constants}
 use Rattle.pool_core.proofs.Listings.{IsOneOf, contains, one_of, each_of, all_of, each_from, each_one, listed_of}
-use Rattle.pool_core.proofs.Orders.{before_asymmetric}
+use Rattle.miners.proofs.Laws.{before_asymmetric}
 use Rattle.houdini.specs.Within.{IsSublist, candidates_or_false}
 use Rattle.pool_core.specs.Candidates.{IsOfCandidates}
 use Rattle.pool_core.proofs.Drawn.{one_of_drawn, drawn_again, first_entry}

@@ -1,40 +1,43 @@
 -- What an answered call adds may follow, so that a legal history stays legal.
-use Rattle.std.proofs.Common.{◌≡◌, ℕ, zero, suc, ◌+◌, ◌<◌, ◌≤◌, Bool, true, false, cond, not, ◌||◌, nat_lt, List, [], ◌∷◌, length, take, Option, Some, None, ℤ, refl, sym, ap, ◌∙◌, subst, arith}
-use Rattle.std.specs.List.{list_any, position, position_or_len}
-use Rattle.std.proofs.lemmas.Bool.Decides.{nat_tests}
+use Rattle.std.proofs.Common.{◌≡◌, ℕ, zero, suc, ◌<◌, ◌≤◌, List, [], ◌∷◌, length, take, None, Ok, sym, ap, subst, arith}
 use Rattle.c_ast.specs.declared.trace.Pair.{Pair}
 use Rattle.c_ast.specs.Comparison.{Comparison}
 use Rattle.horn_clauses.specs.declared.family.Family.{Family}
+use Rattle.relation.specs.Coupled.{IsCoupled}
 use Rattle.trace_pair.specs.declared.skipped.Skipped.{Skipped}
 use Rattle.trace_pair.specs.Pairs.{IsPair, IsSkip}
 use Rattle.miners.specs.Candidates.{AreMinedFrom}
 use Rattle.pool_core.specs.declared.item.Item.TheVariants as item
 use Rattle.pool_core.specs.declared.verdict.Why.{Why}
-use Rattle.pool_core.specs.declared.verdict.Verdict.TheVariants.{Different}
+use Rattle.pool_core.specs.declared.verdict.Verdict.TheVariants.{Equivalent, Different, Unknown}
 use Rattle.pool_core.specs.Tried.{IsTried}
 use Rattle.pool_core.specs.History.{pairs_of, has_index, has_mined, has_tried, MayFollow, IsLegal}
-use Rattle.pool_core.specs.Plays.{State, Snapshot, Append, Skip, Mine, Try, Post, MayCall, IsGrounded, double_of}
-use Rattle.pool_core.proofs.Histories.{pair_of_legal}
-
-none_at : (b any : Bool) (n m : ℕ) → cond (nat_lt (cond (not b) (1 + n) 0) (suc m)) (Some (cond (not b) (1 + n) 0)) None ≡ None
-    → (cond (nat_lt n m) (Some n) None ≡ None → any ≡ false) → (b || any) ≡ false
-none_at true any n m none later = grind (arith, nat_tests)
-none_at false any n m none later = later (grind (arith, nat_tests))
-
--- Where none has a position, none passes.
-pub none_passes : {X : Type 0} (p : X → Bool) (xs : List X) → position p xs ≡ None → list_any p xs ≡ false
-none_passes p [] none = refl
-none_passes p (x ∷ xs) none = none_at (p x) (list_any p xs) (position_or_len p xs) (length xs) none (none_passes p xs)
+use Rattle.pool_core.specs.Plays.{State, Snapshot, IsSnapshot, Call, Append, Skip, Mine, Try, Post, item_of, MayCall, IsGrounded, double_of, Answers}
+use Rattle.pool_core.proofs.Sampled.{snapshot_pairs}
+use Rattle.pool_core.proofs.Finding.{none_passes}
+use Rattle.pool_core.proofs.Posting.{difference_may_follow, equivalence_may_follow}
 
 front_shorter : {X : Type 0} (n : ℕ) (xs : List X) → length (take n xs) ≤ length xs
 front_shorter zero xs = omega arith
 front_shorter (suc n) [] = omega arith
 front_shorter (suc n) (x ∷ xs) = omega (arith, front_shorter n xs)
 
-module _ (state : State) where
-  pub pair_may_follow : (worker : ℕ) (subject : Comparison) (index : ℕ) (pair : Pair) → MayCall state.graphs (Append worker subject index pair)
+-- ---- each call
+
+-- What the types of what is given say: a snapshot is one, and a coupling couples.
+abbrev pub IsGiven : Call → Type 0
+IsGiven (Append worker subject index pair) = Unit {0}
+IsGiven (Skip worker subject index skipped) = Unit {0}
+IsGiven (Mine worker snapshot alignment candidates) = IsSnapshot snapshot
+IsGiven (Try worker snapshot alignment why) = IsSnapshot snapshot
+IsGiven (Post worker (Equivalent coupled indexes)) = IsCoupled coupled
+IsGiven (Post worker (Different index input first second)) = Unit {0}
+IsGiven (Post worker (Unknown samples alignments)) = Unit {0}
+
+module _ (state : State) (legal : IsLegal state.subject state.items) where
+  pub pair_may_follow : (worker : ℕ) (subject : Comparison) (index : ℕ) (pair : Pair) → MayCall (Append worker subject index pair)
       → IsGrounded state (Append worker subject index pair) → double_of state (Append worker subject index pair) ≡ None
-      → MayFollow state.subject state.graphs state.items (item.Pair worker index pair)
+      → MayFollow state.subject state.items (item.Pair worker index pair)
   pair_may_follow worker subject index pair may grounded new = (
     grounded.0.0,
     (
@@ -46,9 +49,9 @@ module _ (state : State) where
     ),
   )
 
-  pub skip_may_follow : (worker : ℕ) (subject : Comparison) (index : ℕ) (skipped : Skipped) → MayCall state.graphs (Skip worker subject index skipped)
+  pub skip_may_follow : (worker : ℕ) (subject : Comparison) (index : ℕ) (skipped : Skipped) → MayCall (Skip worker subject index skipped)
       → IsGrounded state (Skip worker subject index skipped) → double_of state (Skip worker subject index skipped) ≡ None
-      → MayFollow state.subject state.graphs state.items (item.Skipped worker index skipped)
+      → MayFollow state.subject state.items (item.Skipped worker index skipped)
   skip_may_follow worker subject index skipped may grounded new = (
     grounded.0.0,
     (
@@ -60,53 +63,48 @@ module _ (state : State) where
     ),
   )
 
-  pub mined_may_follow : (worker : ℕ) (snapshot : Snapshot) (alignment : ℕ) (candidates : Family)
-      → MayCall state.graphs (Mine worker snapshot alignment candidates) → IsGrounded state (Mine worker snapshot alignment candidates)
+  pub mined_may_follow : (worker : ℕ) (snapshot : Snapshot) (alignment : ℕ) (candidates : Family) → IsSnapshot snapshot
+      → MayCall (Mine worker snapshot alignment candidates) → IsGrounded state (Mine worker snapshot alignment candidates)
       → double_of state (Mine worker snapshot alignment candidates) ≡ None
-      → MayFollow state.subject state.graphs state.items (item.Mined worker (length snapshot.pairs) alignment candidates)
-  mined_may_follow worker snapshot alignment candidates may grounded new = (
-    grounded.0.0,
-    record {
-      named = may.0;
-      there = subst (λ (n : ℕ). n ≤ length (pairs_of state.items)) (sym (ap length grounded.1.0))
-          (front_shorter (length snapshot.pairs) (pairs_of state.items));
-      own = grounded.1.1;
-      new = none_passes (has_mined (length snapshot.pairs) alignment) state.items new;
-      mined = subst (λ (pairs : List Pair). AreMinedFrom state.subject alignment pairs candidates) grounded.1.0
-          (subst (λ (s : Comparison). AreMinedFrom s alignment snapshot.pairs candidates) grounded.0.1 may.1);
-    },
-  )
-
-  pub tried_may_follow : (worker : ℕ) (snapshot : Snapshot) (alignment : ℕ) (why : Why) → MayCall state.graphs (Try worker snapshot alignment why)
-      → IsGrounded state (Try worker snapshot alignment why) → double_of state (Try worker snapshot alignment why) ≡ None
-      → MayFollow state.subject state.graphs state.items (item.Tried worker (length snapshot.pairs) alignment why)
-  tried_may_follow worker snapshot alignment why may grounded new = (
-    grounded.0.0,
-    record {
-      mined = grounded.3;
-      new = none_passes (has_tried (length snapshot.pairs) alignment) state.items new;
-      tried = subst (λ (pairs : List Pair). IsTried state.subject state.graphs alignment pairs why) grounded.1
-          (subst (λ (s : Comparison). IsTried s state.graphs alignment snapshot.pairs why) grounded.0.1 may);
-    },
-  )
-
-  pub difference_may_follow : (worker index : ℕ) (input : List ℤ) (first second : ℤ) → IsLegal state.subject state.graphs state.items
-      → IsGrounded state (Post worker (Different index input first second))
-      → MayFollow state.subject state.graphs state.items (item.Posted worker (Different index input first second))
-  difference_may_follow worker index input first second legal grounded =
-      let has = grounded.2.0 in
-      let is = pair_of_legal state.subject state.graphs state.items has.worker index has.pair legal has.stands in (
+      → MayFollow state.subject state.items (item.Mined worker (length snapshot.pairs) alignment candidates)
+  mined_may_follow worker snapshot alignment candidates is may grounded new =
+      let first = snapshot_pairs state snapshot legal grounded.0.1 is grounded.1.0 in (
         grounded.0.0,
-        (
-          record {
-            below = is.0;
-            input_is = sym has.input_is ∙ is.1.input;
-            pair = has.pair;
-            is_pair = is.1;
-            first_is = has.first_is;
-            second_is = has.second_is;
-            differ = grounded.2.1;
-          },
-          has,
-        ),
+        record {
+          named = may.0;
+          there = subst (λ (n : ℕ). n ≤ length (pairs_of state.items)) (sym (ap length first))
+              (front_shorter (length snapshot.pairs) (pairs_of state.items));
+          own = grounded.1.1;
+          new = none_passes (has_mined (length snapshot.pairs) alignment) state.items new;
+          mined = subst (λ (pairs : List Pair). AreMinedFrom state.subject alignment pairs candidates) first
+              (subst (λ (s : Comparison). AreMinedFrom s alignment snapshot.pairs candidates) grounded.0.1 may.1);
+        },
       )
+
+  pub tried_may_follow : (worker : ℕ) (snapshot : Snapshot) (alignment : ℕ) (why : Why) → IsSnapshot snapshot
+      → MayCall (Try worker snapshot alignment why) → IsGrounded state (Try worker snapshot alignment why)
+      → double_of state (Try worker snapshot alignment why) ≡ None
+      → MayFollow state.subject state.items (item.Tried worker (length snapshot.pairs) alignment why)
+  tried_may_follow worker snapshot alignment why is may grounded new =
+      let first = snapshot_pairs state snapshot legal grounded.0.1 is grounded.1 in (
+        grounded.0.0,
+        record {
+          mined = grounded.3;
+          new = none_passes (has_tried (length snapshot.pairs) alignment) state.items new;
+          tried = subst (λ (pairs : List Pair). IsTried state.subject alignment pairs why) first
+              (subst (λ (s : Comparison). IsTried s alignment snapshot.pairs why) grounded.0.1 may);
+        },
+      )
+
+  -- The item of an answered call may follow.
+  pub may_follow : (call : Call) (place : ℕ) → IsGiven call → MayCall call → Answers state call (Ok place)
+      → MayFollow state.subject state.items (item_of call)
+  may_follow (Append worker subject index pair) place is may answers = pair_may_follow worker subject index pair may answers.0 answers.1
+  may_follow (Skip worker subject index skipped) place is may answers = skip_may_follow worker subject index skipped may answers.0 answers.1
+  may_follow (Mine worker snapshot alignment candidates) place is may answers =
+      mined_may_follow worker snapshot alignment candidates is may answers.0 answers.1
+  may_follow (Try worker snapshot alignment why) place is may answers = tried_may_follow worker snapshot alignment why is may answers.0 answers.1
+  may_follow (Post worker (Equivalent coupled indexes)) place is may answers = equivalence_may_follow state legal worker coupled indexes is answers.0
+  may_follow (Post worker (Different index input first second)) place is may answers =
+      difference_may_follow state legal worker index input first second answers.0
+  may_follow (Post worker (Unknown samples alignments)) place is may answers = absurd may

@@ -5,7 +5,6 @@ use Rattle.c_ast.specs.declared.place.Side.TheVariants.{A}
 use Rattle.c_ast.specs.Comparison.{Comparison}
 use Rattle.graph_run.specs.declared.skip.Skip.TheVariants.{Wide}
 use Rattle.trace_pair.specs.declared.skipped.Skipped.{Skipped}
-use Rattle.trace_pair.specs.declared.pairs.Graphs.{Graphs}
 use Rattle.pool_core.specs.declared.item.Item.{Item}
 use Rattle.pool_core.specs.declared.item.Item.TheVariants as item
 use Rattle.pool_core.specs.declared.verdict.Why.TheVariants.{NoCoupling}
@@ -55,29 +54,29 @@ later = refl
 not_later : has_later_pair 0 1 some_items ≡ false
 not_later = refl
 
-module _ (subject : Comparison) (graphs : Graphs) where
+module _ (subject : Comparison) where
   -- The empty history is legal.
-  empty : IsLegal subject graphs []
+  empty : IsLegal subject []
   empty = tt
 
   -- Nothing begins with a reason, follows a verdict, or says of a sample what was said.
-  not_mined : MayFollow subject graphs [] (item.Tried 0 0 1 NoCoupling) → ⊥
+  not_mined : MayFollow subject [] (item.Tried 0 0 1 NoCoupling) → ⊥
   not_mined may = let none : false ≡ true = may.1.mined in cc
 
-  after_verdict : MayFollow subject graphs closed_items (item.Skipped 1 1 wide) → ⊥
+  after_verdict : MayFollow subject closed_items (item.Skipped 1 1 wide) → ⊥
   after_verdict may = let none = may.0 in cc
 
-  said_twice : MayFollow subject graphs some_items (item.Skipped 0 3 wide) → ⊥
+  said_twice : MayFollow subject some_items (item.Skipped 0 3 wide) → ⊥
   said_twice may = let new : true ≡ false = may.1.0.new in cc
 
   -- A verdict that nothing is decided is never posted.
-  not_posted : MayFollow subject graphs [] (item.Posted 0 (Unknown [] [])) → ⊥
+  not_posted : MayFollow subject [] (item.Posted 0 (Unknown [] [])) → ⊥
   not_posted may = may.1
 
   -- ---- what is answered
 
   abbrev some_state : State
-  some_state = record { subject = subject; graphs = graphs; items = some_items }
+  some_state = record { subject = subject; items = some_items }
 
   -- The sample with index 2 stands at position 2.
   at_two : double_of some_state (Skip 0 subject 2 wide) ≡ Some 2

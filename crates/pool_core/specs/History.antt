@@ -5,7 +5,6 @@ use Rattle.c_ast.specs.declared.trace.Pair.{Pair}
 use Rattle.c_ast.specs.Comparison.{Comparison}
 use Rattle.alignment.specs.Number.{IsAlignment}
 use Rattle.horn_clauses.specs.declared.family.Family.{Family}
-use Rattle.trace_pair.specs.declared.pairs.Graphs.{Graphs}
 use Rattle.trace_pair.specs.Pairs.{IsPair, IsSkip}
 use Rattle.miners.specs.Candidates.{AreMinedFrom}
 use Rattle.pool_core.specs.declared.item.Item.{Item}
@@ -94,31 +93,30 @@ module _ (subject : Comparison) (before : List Item) where
     pub new : list_any (has_mined prefix alignment) before ≡ false
     pub mined : AreMinedFrom subject alignment (take prefix (pairs_of before)) candidates
 
-module _ (subject : Comparison) (graphs : Graphs) (before : List Item) where
   -- The candidates of so many pairs were mined under the alignment, which was not tried on them, and the reason is true
   -- of it.
   pub record IsNewlyTried (prefix alignment : ℕ) (why : Why) : Type 0 where
     pub mined : list_any (has_mined prefix alignment) before ≡ true
     pub new : list_any (has_tried prefix alignment) before ≡ false
-    pub tried : IsTried subject graphs alignment (take prefix (pairs_of before)) why
+    pub tried : IsTried subject alignment (take prefix (pairs_of before)) why
 
   -- The verdict is justified and not unknown, and rests on what stands before it: on the candidates of the first pairs,
   -- which were mined; or on a pair.
   abbrev pub MayBePosted : Verdict → Type 0
   MayBePosted (verdict.Equivalent coupled indexes) =
-      ShowsEquivalence subject graphs coupled indexes
+      ShowsEquivalence subject coupled indexes
       × (indexes ≡ take (length indexes) (indexes_of before))
       × (list_any (has_mined (length indexes) coupled.alignment) before ≡ true)
   MayBePosted (verdict.Different index input first second) =
-      ShowsDifference subject graphs index input first second × HasPair before index input first second
+      ShowsDifference subject index input first second × HasPair before index input first second
   MayBePosted (verdict.Unknown samples alignments) = ⊥
 
   -- What the item asks of those before it.
   abbrev pub IsAllowed : Item → Type 0
-  IsAllowed (item.Pair worker index pair) = IsNewSample subject before index × IsPair subject index pair
-  IsAllowed (item.Skipped worker index skipped) = IsNewSample subject before index × IsSkip subject index skipped
+  IsAllowed (item.Pair worker index pair) = IsNewSample index × IsPair subject index pair
+  IsAllowed (item.Skipped worker index skipped) = IsNewSample index × IsSkip subject index skipped
   IsAllowed (item.Mined worker prefix alignment candidates) =
-      IsNewlyMined subject before worker prefix alignment candidates
+      IsNewlyMined worker prefix alignment candidates
   IsAllowed (item.Tried worker prefix alignment why) = IsNewlyTried prefix alignment why
   IsAllowed (item.Posted worker verdict) = MayBePosted verdict
 
@@ -126,12 +124,12 @@ module _ (subject : Comparison) (graphs : Graphs) (before : List Item) where
   abbrev pub MayFollow : Item → Type 0
   MayFollow next = IsOpen before × IsAllowed next
 
-module _ (subject : Comparison) (graphs : Graphs) where
+module _ (subject : Comparison) where
   -- Behind those before them each of the items may follow.
   abbrev pub IsLegalBehind : List Item → List Item → Type 0
   IsLegalBehind before [] = Unit {0}
   IsLegalBehind before (next ∷ items) =
-      MayFollow subject graphs before next × IsLegalBehind (before ++ next ∷ []) items
+      MayFollow subject before next × IsLegalBehind (before ++ next ∷ []) items
 
   -- The history is legal: each item may follow those before it.
   abbrev pub IsLegal : List Item → Type 0

@@ -4,9 +4,7 @@ use Rattle.std.specs.List.{AllZip}
 use Rattle.c_ast.specs.declared.trace.Pair.{Pair}
 use Rattle.c_ast.specs.Comparison.{Comparison}
 use Rattle.alignment.specs.Number.{IsAlignment}
-use Rattle.horn_clauses.specs.declared.clause.Product.{Product}
 use Rattle.relation.specs.Coupled.{Coupling, IsCoupled}
-use Rattle.trace_pair.specs.declared.pairs.Graphs.{Graphs}
 use Rattle.trace_pair.specs.Pairs.{input_at, IsPair, IsSkip}
 use Rattle.pool_core.specs.declared.verdict.Why.{Why}
 use Rattle.pool_core.specs.declared.verdict.SampleWhy.{SampleWhy}
@@ -14,7 +12,7 @@ use Rattle.pool_core.specs.declared.verdict.SampleWhy.TheVariants as sample
 use Rattle.pool_core.specs.declared.verdict.Verdict.{Verdict}
 use Rattle.pool_core.specs.declared.verdict.Verdict.TheVariants as verdict
 use Rattle.pool_core.specs.Candidates.{IsOfCandidates}
-use Rattle.pool_core.specs.Tried.{IsProductUnder, IsLinearOver, IsTried}
+use Rattle.pool_core.specs.Tried.{IsTried}
 
 -- ---- samples
 
@@ -43,18 +41,11 @@ IsSaid subject index (sample.Skipped skipped) = IsSkip subject index skipped
 
 -- ---- verdicts
 
-module _ (subject : Comparison) (graphs : Graphs) where
-  -- The coupling is of the subject, and its family is linear over the product of these graphs.
-  pub record IsCoupledOver (coupled : Coupling) : Type 0 where
-    pub own : coupled.subject ≡ subject
-    pub is_coupled : IsCoupled coupled
-    pub product : Product
-    pub is_product : IsProductUnder subject graphs coupled.alignment product
-    pub linear : IsLinearOver subject graphs product coupled.family
-
-  -- The functions are coupled by a family of candidates of the pairs with these indexes.
+module _ (subject : Comparison) where
+  -- The coupling is of the subject, and its family is of candidates of the pairs with these indexes.
   pub record ShowsEquivalence (coupled : Coupling) (indexes : List ℕ) : Type 0 where
-    pub couples : IsCoupledOver coupled
+    pub own : coupled.subject ≡ subject
+    pub couples : IsCoupled coupled
     pub pairs : List Pair
     pub at : ArePairsAt subject indexes pairs
     pub candidates : IsOfCandidates subject coupled.alignment pairs coupled.family
@@ -80,7 +71,7 @@ module _ (subject : Comparison) (graphs : Graphs) where
     pub pairs : List Pair
     pub all : AreAllPairs subject indexes pairs
     pub tried : (alignment : ℕ) → IsAlignment alignment
-        → IsSomeAnd (slice_get alignments (alignment - 1)) (IsTried subject graphs alignment pairs)
+        → IsSomeAnd (slice_get alignments (alignment - 1)) (IsTried subject alignment pairs)
 
   -- The verdict is justified.
   abbrev pub IsJustified : Verdict → Type 0

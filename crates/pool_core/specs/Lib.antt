@@ -5,3 +5,5 @@ pub mod Kinds
 pub mod History
 pub mod Plays
 pub mod Laws
+pub mod Tables
+pub mod Beside

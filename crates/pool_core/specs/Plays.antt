@@ -1,13 +1,12 @@
 -- What the calls of a pool answer, and what they leave.
 use Rattle.std.specs.Prelude.{◌≡◌, ◌≢◌, ◌⊎◌, ℕ, ◌<◌, true, false, List, [], ◌∷◌, ◌++◌, length, take, slice_get, position, Contains, Option, Some, None, Result, Ok, Err}
-use Rattle.std.specs.List.{list_any, AllZip}
+use Rattle.std.specs.List.{list_any}
 use Rattle.c_ast.specs.declared.trace.Pair.{Pair}
 use Rattle.c_ast.specs.Comparison.{Comparison}
 use Rattle.alignment.specs.Number.{IsAlignment}
 use Rattle.horn_clauses.specs.declared.family.Family.{Family}
 use Rattle.horn_clauses.specs.Family.{atoms_at}
 use Rattle.trace_pair.specs.declared.skipped.Skipped.{Skipped}
-use Rattle.trace_pair.specs.declared.pairs.Graphs.{Graphs}
 use Rattle.trace_pair.specs.Pairs.{IsPair, IsSkip}
 use Rattle.miners.specs.Candidates.{AreMinedFrom}
 use Rattle.pool_core.specs.declared.item.Item.{Item}
@@ -21,20 +20,19 @@ use Rattle.pool_core.specs.declared.refused.Missing.{Missing}
 use Rattle.pool_core.specs.declared.refused.Missing.TheVariants as missing
 use Rattle.pool_core.specs.Candidates.{IsDrawnFrom}
 use Rattle.pool_core.specs.Tried.{IsTried}
-use Rattle.pool_core.specs.Justified.{IsCoupledOver}
-use Rattle.pool_core.specs.History.{pairs_of, indexes_of, has_index, has_mined, has_tried, verdict_of, IsOpen, has_later_pair, HasPair, HaveEqualResults, Concludes}
+use Rattle.pool_core.specs.Justified.{ArePairsAt, IsJustified}
+use Rattle.pool_core.specs.History.{pairs_of, indexes_of, has_index, has_mined, has_tried, verdict_of, IsOpen, has_later_pair, HasPair, HaveEqualResults, Concludes, IsLegal}
 
 -- ---- what a pool is, and what it is given
 
--- A pool: the subject and the graphs of its functions, and the history.
+-- A pool: the subject and the history.
 pub record State : Type 0 where
   pub subject : Comparison
-  pub graphs : Graphs
   pub items : List Item
 
 -- With one item more, at the end.
 abbrev pub with_item : State → Item → State
-with_item state next = record { subject = state.subject; graphs = state.graphs; items = state.items ++ next ∷ [] }
+with_item state next = record { subject = state.subject; items = state.items ++ next ∷ [] }
 
 -- The first pairs of a history, with their indexes.
 pub record Snapshot : Type 0 where
@@ -47,9 +45,9 @@ abbrev pub snapshot_of : State → Snapshot
 snapshot_of state =
     record { subject = state.subject; indexes = indexes_of state.items; pairs = pairs_of state.items }
 
--- As many pairs as indexes, each the pair of its own.
+-- As many pairs as indexes, which are of samples and none of which comes twice, each the pair of its own.
 abbrev pub IsSnapshot : Snapshot → Type 0
-IsSnapshot snapshot = AllZip (IsPair snapshot.subject) snapshot.indexes snapshot.pairs
+IsSnapshot snapshot = ArePairsAt snapshot.subject snapshot.indexes snapshot.pairs
 
 -- A call that adds an item where it is answered.
 pub data Call : Type 0 where
@@ -68,19 +66,16 @@ item_of (Mine worker snapshot alignment candidates) =
 item_of (Try worker snapshot alignment why) = item.Tried worker (length snapshot.pairs) alignment why
 item_of (Post worker verdict) = item.Posted worker verdict
 
--- What whoever makes the call owes. It speaks of what is given, and of the graphs alone of the pool.
-abbrev pub MayCall : Graphs → Call → Type 0
-MayCall graphs (Append worker subject index pair) =
-    (index < subject.settings.samples) × IsPair subject index pair
-MayCall graphs (Skip worker subject index skipped) =
-    (index < subject.settings.samples) × IsSkip subject index skipped
-MayCall graphs (Mine worker snapshot alignment candidates) =
+-- What whoever makes the call owes. It speaks of what is given alone.
+abbrev pub MayCall : Call → Type 0
+MayCall (Append worker subject index pair) = (index < subject.settings.samples) × IsPair subject index pair
+MayCall (Skip worker subject index skipped) = (index < subject.settings.samples) × IsSkip subject index skipped
+MayCall (Mine worker snapshot alignment candidates) =
     IsAlignment alignment × AreMinedFrom snapshot.subject alignment snapshot.pairs candidates
-MayCall graphs (Try worker snapshot alignment why) =
-    IsTried snapshot.subject graphs alignment snapshot.pairs why
-MayCall graphs (Post worker (verdict.Equivalent coupled indexes)) = IsCoupledOver coupled.subject graphs coupled
-MayCall graphs (Post worker (verdict.Different index input first second)) = Unit {0}
-MayCall graphs (Post worker (verdict.Unknown samples alignments)) = ⊥
+MayCall (Try worker snapshot alignment why) = IsTried snapshot.subject alignment snapshot.pairs why
+MayCall (Post worker (verdict.Equivalent coupled indexes)) = Unit {0}
+MayCall (Post worker (verdict.Different index input first second)) = Unit {0}
+MayCall (Post worker (verdict.Unknown samples alignments)) = ⊥
 
 -- ---- refusals
 
@@ -111,9 +106,9 @@ MayLackMemory (Append worker subject index pair) = Unit {0}
 MayLackMemory _ = ⊥
 
 module _ (state : State) where
-  -- The snapshot has the pool's first pairs.
+  -- The snapshot has the pool's first pairs: those of its first indexes, since a sample is one pair.
   abbrev pub HasFirstPairs : Snapshot → Type 0
-  HasFirstPairs snapshot = snapshot.pairs ≡ take (length snapshot.pairs) (pairs_of state.items)
+  HasFirstPairs snapshot = snapshot.indexes ≡ take (length snapshot.indexes) (indexes_of state.items)
 
   -- Candidates of so many pairs were mined under the alignment, and the family is drawn from them.
   pub record IsDrawnFromMined (prefix alignment : ℕ) (family : Family) : Type 0 where
@@ -245,3 +240,8 @@ module _ (state : State) where
       IsSampled × HaveEqualResults state.items × IsAlignment alignment × AreAllTried state.items alignment
       × (list_any (has_tried (length (pairs_of state.items)) alignment) state.items ≡ false)
   AnswersConclusion (Err missing.Memory) = (¬ IsOpen state.items) ⊎ IsSettled
+
+-- What is concluded from a legal history is justified.
+abbrev pub ConclusionsAreJustified : Type 0
+ConclusionsAreJustified = (state : State) (found : Verdict) → IsLegal state.subject state.items
+    → AnswersConclusion state (Ok found) → IsJustified state.subject found

@@ -1,8 +1,9 @@
 //! Laws of the definitions alone. Each is the contract of a call that does nothing.
-//! `specs/Laws.antt` and `specs/Kinds.antt` state them.
+//! `specs/Laws.antt`, `specs/Kinds.antt` and `specs/Plays.antt` state them.
 ghost use Rattle.pool_core.specs.Laws.{FrontsAreLegal, ItemsFollow, HistoriesGoOn};
 ghost use Rattle.pool_core.specs.Laws.{NothingFollowsVerdicts};
-ghost use Rattle.pool_core.specs.Kinds.{AreOfOneKind, DifferencesStand};
+ghost use Rattle.pool_core.specs.Kinds.{AreOfOneKind, DifferencesAreFound, CouplingsAreFound};
+ghost use Rattle.pool_core.specs.Plays.{ConclusionsAreJustified};
 
 /// A front of a legal history is legal, and each of its items may follow those before it; with an
 /// item that may follow a legal history is legal. Nothing follows a verdict, which is justified.
@@ -13,12 +14,19 @@ pub fn law_of_histories()
     ensures last { NothingFollowsVerdicts }
 {}
 
-/// Two verdicts that are justified of one subject, over the same graphs, are of one kind, unless
-/// one of them is unknown and names a limit of an obligation at the alignment of the other. A
-/// coupling is of candidates of all pairs, as it is one of candidates of some, so only such a limit
-/// hides it. Where one verdict is that the functions differ, every other is so, whatever the graphs
-/// are.
+/// Two verdicts that are justified of one subject are of one kind, unless one of them is unknown
+/// and names a limit of an obligation at the alignment of the other. A coupling is of candidates
+/// of all pairs, as it is one of candidates of some, so only such a limit hides it. A justified
+/// verdict is that the functions differ exactly where some sample shows it; and where a family of
+/// candidates of all pairs is linear, it is that they are equivalent, or it names such a limit
+/// there.
 pub fn law_of_kinds()
     ensures one { AreOfOneKind }
-    ensures different { DifferencesStand }
+    ensures differences { DifferencesAreFound }
+    ensures couplings { CouplingsAreFound }
+{}
+
+/// What a pool with a legal history concludes is justified.
+pub fn law_of_conclusions()
+    ensures { ConclusionsAreJustified }
 {}

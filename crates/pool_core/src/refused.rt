@@ -14,7 +14,7 @@ pub enum PoolRefused {
     Stranger,
     /// The so many given pairs are not the pool's first ones; or the worker that mined them added
     /// one that is not among them.
-    Stale(u32),
+    Stale(usize),
     /// No pair has this index, the input and both results; or these are equal.
     NoPair(u32),
     /// For the alignment with this number nothing was mined of the so many given pairs; or the

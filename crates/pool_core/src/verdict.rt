@@ -1,9 +1,12 @@
 //! Verdicts, and why there may be none.
+ghost use Rattle.std.specs.Prelude.{◌≡◌, IfOk};
+
 use elimination::Limit;
 use horn_clauses::Family;
 use path_product::ProductLimit;
 use relation::Coupled;
 use sqlite_items::Items;
+use std::alloc::{AllocError, Global};
 use trace_pair::Skipped;
 
 /// Why an alignment has no coupling, as far as it was tried on the candidates of some pairs.
@@ -61,4 +64,78 @@ pub enum Verdict {
         /// Why each of the twelve alignments has no coupling, in the order of their numbers.
         alignments: Items<Why>,
     },
+}
+
+fn copy_reasons(alloc: Global, reasons: &[Why]) -> Result<Items<Why>, AllocError>
+    ensures { IfOk result (λ made. made ≡ reasons.now) }
+{
+    let mut made = Items::new(alloc);
+    for why in reasons {
+        made.push(why.copy(alloc)?)?;
+    }
+    Ok(made)
+}
+
+impl Why {
+    /// The same reason again.
+    pub fn copy(&self, alloc: Global) -> Result<Why, AllocError>
+        ensures { IfOk result (λ made. made ≡ self.now) }
+    {
+        match self {
+            Why::NoCoupling => Ok(Why::NoCoupling),
+            Why::Product(limit) => Ok(Why::Product(*limit)),
+            Why::AtObligation {
+                obligation,
+                left,
+                limit,
+            } => {
+                let left = left.copy(alloc)?;
+                Ok(Why::AtObligation {
+                    obligation: *obligation,
+                    left,
+                    limit: *limit,
+                })
+            }
+        }
+    }
+}
+
+impl Verdict {
+    /// The same verdict again.
+    pub fn copy(&self, alloc: Global) -> Result<Verdict, AllocError>
+        ensures { IfOk result (λ made. made ≡ self.now) }
+    {
+        match self {
+            Verdict::Equivalent { coupled, indexes } => {
+                let coupled = coupled.copy(alloc)?;
+                let indexes = Items::from_slice(alloc, indexes.as_slice())?;
+                Ok(Verdict::Equivalent { coupled, indexes })
+            }
+            Verdict::Different {
+                index,
+                input,
+                first,
+                second,
+            } => {
+                let input = Items::from_slice(alloc, input.as_slice())?;
+                Ok(Verdict::Different {
+                    index: *index,
+                    input,
+                    first: *first,
+                    second: *second,
+                })
+            }
+            Verdict::Unknown {
+                samples,
+                alignments,
+            } => {
+                let samples = Items::from_slice(alloc, samples.as_slice())?;
+                let alignments = copy_reasons(alloc, alignments.as_slice())?;
+                Ok(Verdict::Unknown {
+                    samples,
+                    alignments,
+                })
+            }
+        }
+    }
 }
