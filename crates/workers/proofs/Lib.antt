@@ -1,0 +1,4 @@
+pub mod Drawn
+pub mod Fitting
+pub mod Searching
+pub mod Grounding
