@@ -1,4 +1,10 @@
 pub mod Drawn
 pub mod Fitting
-pub mod Searching
 pub mod Grounding
+pub mod Searching
+pub mod Growing
+pub mod Sampling
+pub mod Trying
+pub mod Refusing
+pub mod Concluding
+pub mod Stepping

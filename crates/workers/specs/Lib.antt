@@ -1,2 +1,4 @@
 pub mod Ground
 pub mod Found
+pub mod Solved
+pub mod Alone
