@@ -28,6 +28,8 @@ mod snapshot;
 
 // What histories and verdicts promise.
 mod law;
+#[cfg(test)]
+mod tests;
 
 pub use item::Item;
 pub use law::{law_of_conclusions, law_of_histories, law_of_kinds};
