@@ -2,14 +2,16 @@
 use Rattle.std.proofs.Common.{◌≡◌, ◌≢◌, ◌+◌, ◌++◌, ℕ, suc, Bool, true, false, List, [], ◌∷◌, Option, Some, None, refl, sym, ap, ◌∙◌, subst, arith}
 use Rattle.std.specs.Prelude.{if◌then◌else◌, option_to_list, option_map, is_some}
 use Rattle.c_ast.specs.Bounds.{AreBounds}
+use Rattle.command_line.specs.declared.switch.Switch.{Switch}
+use Rattle.command_line.specs.declared.switch.Switch.TheVariants.{Alone, History}
 use Rattle.command_line.specs.declared.setting.Setting.{Setting}
 use Rattle.command_line.specs.declared.setting.Setting.TheVariants.{Workers, Samples, Marks, Rows, Seed}
 use Rattle.command_line.specs.declared.given.Given.{Given}
 use Rattle.command_line.specs.declared.given.Operands.{Operands}
 use Rattle.command_line.specs.declared.given.Operands.TheVariants as names
 use Rattle.command_line.specs.declared.words.Command.{Command}
-use Rattle.command_line.specs.CommandLine.{Item, alone, given, condition, operand, operands, switches, conditions, numbers, Sets, AreWorkers}
-use Rattle.command_line.specs.Read.{number_of, put, with_alone, with_number, with_condition, with_operand, one_more}
+use Rattle.command_line.specs.CommandLine.{Item, switched, given, condition, operand, operands, switches, times, conditions, numbers, Sets, AreWorkers}
+use Rattle.command_line.specs.Read.{is_on, turned_on, number_of, put, with_switch, with_number, with_condition, with_operand, one_more}
 
 -- the names so far
 abbrev pub file_list : Operands → List (List ℕ)
@@ -17,14 +19,18 @@ file_list names.None = []
 file_list (names.First first) = first ∷ []
 file_list (names.Both first second) = first ∷ second ∷ []
 
--- how often `--alone` stood
-abbrev pub count : Bool → ℕ
-count true = 1
-count false = 0
-
 -- the option's numbers, those so far and those of the items
 abbrev pub all_numbers : Setting → Given → List Item → List ℕ
 all_numbers setting now items = option_to_list (number_of setting now) ++ numbers setting items
+
+-- how often the switch stands, so far and among the items
+abbrev pub all_switches : Switch → Given → List Item → ℕ
+all_switches option now items = times (is_on option now) + switches option items
+
+-- whether the switch is on in a command
+abbrev pub is_on_in : Command → Switch → Bool
+is_on_in command Alone = true
+is_on_in command History = command.history
 
 -- the options' numbers of a command
 abbrev pub number_in : ℕ → Command → Setting → ℕ
@@ -36,7 +42,7 @@ number_in workers command Seed = command.settings.seed
 
 -- What was given and the items that are left make the command.
 pub record Makes (now : Given) (items : List Item) (command : Command) (workers : ℕ) : Type 0 where
-  pub alone_once : count now.alone + switches items ≡ 1
+  pub turns : (option : Switch) → all_switches option now items ≡ times (is_on_in command option)
   pub sets : (setting : Setting) → Sets setting (all_numbers setting now items) (number_in workers command setting)
   pub pre : option_to_list now.condition ++ conditions items ≡ option_to_list command.condition
   pub within : AreBounds command.settings
@@ -45,7 +51,7 @@ pub record Makes (now : Given) (items : List Item) (command : Command) (workers 
 
 -- what was given with one item more
 abbrev pub with_item : Item → Given → Option Given
-with_item alone now = with_alone now
+with_item (switched option) now = with_switch option now
 with_item (given setting number) now = with_number setting number now
 with_item (condition text) now = with_condition text now
 with_item (operand word) now = with_operand word now
@@ -94,6 +100,30 @@ own_numbers Marks number items = refl
 own_numbers Rows number items = refl
 own_numbers Seed number items = refl
 
+-- ---- switches
+
+counted : (turns : ℕ) → 0 + suc turns ≡ 1 + turns
+counted turns = omega arith
+
+-- a switch that stands among the items and was off is turned on
+moved_turns : (option other : Switch) (now : Given) (items : List Item) → is_on option now ≡ false
+    → all_switches other now (switched option ∷ items) ≡ all_switches other (turned_on option now) items
+moved_turns Alone Alone now items is = rw is (counted (switches Alone items))
+moved_turns Alone History now items is = refl
+moved_turns History Alone now items is = refl
+moved_turns History History now items is = rw is (counted (switches History items))
+
+not_before : (before : Bool) (others : ℕ) (last : Bool) → times before + suc others ≡ times last → before ≡ false
+not_before true others true is = absurd (omega arith)
+not_before true others false is = absurd (omega arith)
+not_before false others last is = refl
+
+-- a switch that stands among the items was off
+was_off : (option : Switch) (now : Given) (items : List Item) (last : Bool) → all_switches option now (switched option ∷ items) ≡ times last
+    → is_on option now ≡ false
+was_off Alone now items last is = not_before now.alone (switches Alone items) last is
+was_off History now items last is = not_before now.history (switches History items) last is
+
 -- ---- conditions
 
 -- a text among those of one condition at most is the only one
@@ -122,28 +152,41 @@ joined_names word (names.Both first second) next others is = absurd cc
 
 -- ---- what a step leaves
 
--- numbers stay where `--alone`, a condition or an operand is given
-other_numbers : (setting : Setting) (now : Given) (switch : Bool) (text : Option (List ℕ)) (more : Operands)
-    → number_of setting (record now { alone = switch; condition = text; operands = more }) ≡ number_of setting now
-other_numbers Workers now switch text more = refl
-other_numbers Samples now switch text more = refl
-other_numbers Marks now switch text more = refl
-other_numbers Rows now switch text more = refl
-other_numbers Seed now switch text more = refl
+-- numbers stay where a switch, a condition or an operand is given
+other_numbers : (setting : Setting) (now : Given) (switch other : Bool) (text : Option (List ℕ)) (more : Operands)
+    → number_of setting (record now { alone = switch; history = other; condition = text; operands = more }) ≡ number_of setting now
+other_numbers Workers now switch other text more = refl
+other_numbers Samples now switch other text more = refl
+other_numbers Marks now switch other text more = refl
+other_numbers Rows now switch other text more = refl
+other_numbers Seed now switch other text more = refl
 
--- `--alone`, the condition and the operands stay where a number is given
+-- numbers, the condition and the operands stay where a switch is turned on
+turned_stay : (option : Switch) (now : Given)
+    → ((setting : Setting) → number_of setting (turned_on option now) ≡ number_of setting now)
+    × ((turned_on option now).condition ≡ now.condition) × ((turned_on option now).operands ≡ now.operands)
+turned_stay Alone now = (λ setting. other_numbers setting now true now.history now.condition now.operands, refl, refl)
+turned_stay History now = (λ setting. other_numbers setting now now.alone true now.condition now.operands, refl, refl)
+
+-- switches, the condition and the operands stay where a number is given
 others_stay : (setting : Setting) (number : ℕ) (now : Given)
-    → ((put setting number now).alone ≡ now.alone) × ((put setting number now).condition ≡ now.condition)
-    × ((put setting number now).operands ≡ now.operands)
-others_stay Workers number now = (refl, refl, refl)
-others_stay Samples number now = (refl, refl, refl)
-others_stay Marks number now = (refl, refl, refl)
-others_stay Rows number now = (refl, refl, refl)
-others_stay Seed number now = (refl, refl, refl)
+    → ((put setting number now).alone ≡ now.alone) × ((put setting number now).history ≡ now.history)
+    × ((put setting number now).condition ≡ now.condition) × ((put setting number now).operands ≡ now.operands)
+others_stay Workers number now = (refl, refl, refl, refl)
+others_stay Samples number now = (refl, refl, refl, refl)
+others_stay Marks number now = (refl, refl, refl, refl)
+others_stay Rows number now = (refl, refl, refl, refl)
+others_stay Seed number now = (refl, refl, refl, refl)
 
-not_before : (before : Bool) (others : ℕ) → count before + suc others ≡ 1 → (before ≡ false) × (others ≡ 0)
-not_before true others once = absurd (omega arith)
-not_before false others once = (refl, omega arith)
+still_on : (option : Switch) (setting : Setting) (number : ℕ) (now : Given) → is_on option (put setting number now) ≡ is_on option now
+still_on Alone setting number now = (others_stay setting number now).0
+still_on History setting number now = (others_stay setting number now).1
+
+-- switches stay where a condition or an operand is given
+other_turns : (option : Switch) (now : Given) (text : Option (List ℕ)) (more : Operands)
+    → is_on option (record now { condition = text; operands = more }) ≡ is_on option now
+other_turns Alone now text more = refl
+other_turns History now text more = refl
 
 -- The option of the first item that is left has its numbers.
 own_sets : (setting : Setting) (number : ℕ) (now : Given) (items : List Item) (command : Command)
@@ -160,21 +203,21 @@ own_sets setting number now items command workers makes =
 -- the first item left is given next
 pub moved : (item : Item) (now : Given) (items : List Item) (command : Command) (workers : ℕ) → Makes now (item ∷ items) command workers
     → (next : Given) × (with_item item now ≡ Some next) × Makes next items command workers
-moved alone now items command workers makes =
-    let before = not_before now.alone (switches items) makes.alone_once in
-    let none : now.alone ≡ false = before.0 in
-    let no_more : switches items ≡ 0 = before.1 in
-    let next : Given = record now { alone = true } in (
-      next,
-      rw none refl,
+moved (switched option) now items command workers makes =
+    let off : is_on option now ≡ false = was_off option now items (is_on_in command option) (makes.turns option) in
+    let stay = turned_stay option now in
+    let turned_text : (turned_on option now).condition ≡ now.condition = stay.1 in
+    let turned_files : (turned_on option now).operands ≡ now.operands = stay.2 in (
+      turned_on option now,
+      rw off refl,
       record {
-        alone_once = omega (arith, no_more);
+        turns = λ other. sym (moved_turns option other now items off) ∙ makes.turns other;
         sets = λ setting. subst (λ n. Sets setting (option_to_list n ++ numbers setting items) (number_in workers command setting))
-            (sym (other_numbers setting now true now.condition now.operands)) (makes.sets setting);
-        pre = makes.pre;
+            (sym (stay.0 setting)) (makes.sets setting);
+        pre = rw turned_text makes.pre;
         within = makes.within;
         few_workers = makes.few_workers;
-        names = makes.names;
+        names = rw turned_files makes.names;
       },
     )
 moved (given setting number) now items command workers makes =
@@ -182,13 +225,12 @@ moved (given setting number) now items command workers makes =
     let none : number_of setting now ≡ None =
     sole setting (number_of setting now) number (number_in workers command setting) (numbers setting items) own in
     let stay = others_stay setting number now in
-    let put_alone : (put setting number now).alone ≡ now.alone = stay.0 in
-    let put_text : (put setting number now).condition ≡ now.condition = stay.1 in
-    let put_files : (put setting number now).operands ≡ now.operands = stay.2 in (
+    let put_text : (put setting number now).condition ≡ now.condition = stay.2 in
+    let put_files : (put setting number now).operands ≡ now.operands = stay.3 in (
       put setting number now,
       rw none refl,
       record {
-        alone_once = rw put_alone makes.alone_once;
+        turns = λ option. ap (λ t. times t + switches option items) (still_on option setting number now) ∙ makes.turns option;
         sets = λ other. subst (λ l. Sets other l (number_in workers command other)) (moved_numbers setting other number now items none) (makes.sets other);
         pre = rw put_text makes.pre;
         within = makes.within;
@@ -202,9 +244,9 @@ moved (condition text) now items command workers makes =
       next,
       rw none refl,
       record {
-        alone_once = makes.alone_once;
+        turns = λ option. ap (λ t. times t + switches option items) (other_turns option now (Some text) now.operands) ∙ makes.turns option;
         sets = λ setting. subst (λ n. Sets setting (option_to_list n ++ numbers setting items) (number_in workers command setting))
-            (sym (other_numbers setting now now.alone (Some text) now.operands)) (makes.sets setting);
+            (sym (other_numbers setting now now.alone now.history (Some text) now.operands)) (makes.sets setting);
         pre = rw none at makes.pre;
         within = makes.within;
         few_workers = makes.few_workers;
@@ -216,9 +258,9 @@ moved (operand word) now items command workers makes =
       record now { operands = next.0 },
       ap (option_map (λ more. record now { operands = more })) next.1,
       record {
-        alone_once = makes.alone_once;
+        turns = λ option. ap (λ t. times t + switches option items) (other_turns option now now.condition next.0) ∙ makes.turns option;
         sets = λ setting. subst (λ n. Sets setting (option_to_list n ++ numbers setting items) (number_in workers command setting))
-            (sym (other_numbers setting now now.alone now.condition next.0)) (makes.sets setting);
+            (sym (other_numbers setting now now.alone now.history now.condition next.0)) (makes.sets setting);
         pre = makes.pre;
         within = makes.within;
         few_workers = makes.few_workers;
@@ -226,10 +268,9 @@ moved (operand word) now items command workers makes =
       },
     )
 
-switched : (before : Bool) (now next : Given) → now.alone ≡ before → (if before then None else Some (record now { alone = true })) ≡ Some next
-    → (before ≡ false) × (record now { alone = true } ≡ next)
-switched true now next is gives = absurd cc
-switched false now next is gives = (refl, cc)
+turned : (before : Bool) (made next : Given) → (if before then None else Some made) ≡ Some next → (before ≡ false) × (made ≡ next)
+turned true made next gives = absurd cc
+turned false made next gives = (refl, cc)
 
 numbered : (so_far : Option ℕ) (made next : Given) → (if is_some so_far then None else Some made) ≡ Some next → (so_far ≡ None) × (made ≡ next)
 numbered None made next gives = (refl, cc)
@@ -247,28 +288,29 @@ named now next (Some names) gives = (names, refl, cc)
 -- the item that was given was the first one left
 pub moved_back : (item : Item) (now next : Given) (items : List Item) (command : Command) (workers : ℕ) → with_item item now ≡ Some next
     → Makes next items command workers → Makes now (item ∷ items) command workers
-moved_back alone now next items command workers gives makes =
-    let before = switched now.alone now next refl gives in
-    let none : now.alone ≡ false = before.0 in
-    let made : Makes (record now { alone = true }) items command workers = subst (λ g. Makes g items command workers) (sym before.1) makes in
+moved_back (switched option) now next items command workers gives makes =
+    let before = turned (is_on option now) (turned_on option now) next gives in
+    let made : Makes (turned_on option now) items command workers = subst (λ g. Makes g items command workers) (sym before.1) makes in
+    let stay = turned_stay option now in
+    let turned_text : (turned_on option now).condition ≡ now.condition = stay.1 in
+    let turned_files : (turned_on option now).operands ≡ now.operands = stay.2 in
     record {
-      alone_once = rw none (omega (arith, made.alone_once));
+      turns = λ other. moved_turns option other now items before.0 ∙ made.turns other;
       sets = λ setting. subst (λ n. Sets setting (option_to_list n ++ numbers setting items) (number_in workers command setting))
-          (other_numbers setting now true now.condition now.operands) (made.sets setting);
-      pre = made.pre;
+          (stay.0 setting) (made.sets setting);
+      pre = rw turned_text at made.pre;
       within = made.within;
       few_workers = made.few_workers;
-      names = made.names;
+      names = rw turned_files at made.names;
     }
 moved_back (given setting number) now next items command workers gives makes =
     let before = numbered (number_of setting now) (put setting number now) next gives in
     let made : Makes (put setting number now) items command workers = subst (λ g. Makes g items command workers) (sym before.1) makes in
     let stay = others_stay setting number now in
-    let put_alone : (put setting number now).alone ≡ now.alone = stay.0 in
-    let put_text : (put setting number now).condition ≡ now.condition = stay.1 in
-    let put_files : (put setting number now).operands ≡ now.operands = stay.2 in
+    let put_text : (put setting number now).condition ≡ now.condition = stay.2 in
+    let put_files : (put setting number now).operands ≡ now.operands = stay.3 in
     record {
-      alone_once = rw put_alone at made.alone_once;
+      turns = λ option. ap (λ t. times t + switches option items) (sym (still_on option setting number now)) ∙ made.turns option;
       sets = λ other. subst (λ l. Sets other l (number_in workers command other)) (sym (moved_numbers setting other number now items before.0))
           (made.sets other);
       pre = rw put_text at made.pre;
@@ -281,9 +323,9 @@ moved_back (condition text) now next items command workers gives makes =
     let none : now.condition ≡ None = before.0 in
     let made : Makes (record now { condition = Some text }) items command workers = subst (λ g. Makes g items command workers) (sym before.1) makes in
     record {
-      alone_once = made.alone_once;
+      turns = λ option. ap (λ t. times t + switches option items) (sym (other_turns option now (Some text) now.operands)) ∙ made.turns option;
       sets = λ setting. subst (λ n. Sets setting (option_to_list n ++ numbers setting items) (number_in workers command setting))
-          (other_numbers setting now now.alone (Some text) now.operands) (made.sets setting);
+          (other_numbers setting now now.alone now.history (Some text) now.operands) (made.sets setting);
       pre = rw none made.pre;
       within = made.within;
       few_workers = made.few_workers;
@@ -293,9 +335,9 @@ moved_back (operand word) now next items command workers gives makes =
     let before = named now next (one_more word now.operands) gives in
     let made : Makes (record now { operands = before.0 }) items command workers = subst (λ g. Makes g items command workers) (sym before.2) makes in
     record {
-      alone_once = made.alone_once;
+      turns = λ option. ap (λ t. times t + switches option items) (sym (other_turns option now now.condition before.0)) ∙ made.turns option;
       sets = λ setting. subst (λ n. Sets setting (option_to_list n ++ numbers setting items) (number_in workers command setting))
-          (other_numbers setting now now.alone now.condition before.0) (made.sets setting);
+          (other_numbers setting now now.alone now.history now.condition before.0) (made.sets setting);
       pre = made.pre;
       within = made.within;
       few_workers = made.few_workers;

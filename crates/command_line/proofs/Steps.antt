@@ -1,6 +1,6 @@
 -- One word: what it leaves to be read, both ways.
 use Rattle.std.proofs.Common.{◌≡◌, ℕ, Bool, true, false, List, ◌∷◌, map, Option, Some, None, refl, sym, ap, ◌∙◌, subst}
-use Rattle.std.specs.Prelude.{codes, if◌then◌else◌, option_map, option_and_then}
+use Rattle.std.specs.Prelude.{if◌then◌else◌, option_map, option_and_then}
 use Rattle.command_line.specs.declared.setting.Setting.{Setting}
 use Rattle.command_line.specs.declared.setting.Valued.{Valued}
 use Rattle.command_line.specs.declared.setting.Valued.TheVariants.{Number, Pre}
@@ -9,11 +9,11 @@ use Rattle.command_line.specs.declared.reading.Reading.{Reading}
 use Rattle.command_line.specs.declared.reading.Expects.{Expects}
 use Rattle.command_line.specs.declared.reading.Expects.TheVariants as expects
 use Rattle.command_line.specs.declared.words.Command.{Command}
-use Rattle.command_line.specs.CommandLine.{name_of, Item, alone, given, condition, operand, HasNoDash, SpellsValue, says_number, says_text, Spells, dashes, plain, switch, joined, apart}
+use Rattle.command_line.specs.CommandLine.{name_of, Item, switched, given, condition, operand, HasNoDash, SpellsValue, says_number, says_text, Spells, dashes, plain, switch, joined, apart}
 use Rattle.command_line.specs.Read as read
-use Rattle.command_line.specs.Read.{WordKind, kind_of, value_of, is_condition, begins_with_dash, with_alone, with_number, with_written, with_condition, with_text, with_value, with_operand, reading, word_step, expected_step, step}
+use Rattle.command_line.specs.Read.{WordKind, kind_of, value_of, is_condition, begins_with_dash, with_switch, with_number, with_written, with_condition, with_text, with_value, with_operand, reading, word_step, expected_step, step}
 use Rattle.command_line.proofs.Values.{value_writes, written_value, condition_text, without_dash, dash_missing}
-use Rattle.command_line.proofs.WordKinds.{kind_of-joined, kind_of-apart, kind_of-operand, KindSays, kind_of-says}
+use Rattle.command_line.proofs.WordKinds.{kind_of-switch, kind_of-joined, kind_of-apart, kind_of-operand, KindSays, kind_of-says}
 use Rattle.command_line.proofs.Left.{Makes, with_item, moved, moved_back}
 
 -- The words spell the items, by what the first word is taken for.
@@ -68,10 +68,10 @@ spelled word words now _ command workers (plain _ _ items is spells) makes =
     let next = moved (operand word) now items command workers makes in
     by_item word words now next.0 expects.Word expects.Word items command workers (with_operand word now)
     (of_kind word now read.plain (kind_of-operand word is)) next.1 (at_word words items spells) next.2
-spelled word words now _ command workers (switch _ items spells) makes =
-    let next = moved alone now items command workers makes in
-    by_item (codes "--alone") words now next.0 expects.Word expects.Word items command workers (with_alone now)
-    refl next.1 (at_word words items spells) next.2
+spelled word words now _ command workers (switch option _ items spells) makes =
+    let next = moved (switched option) now items command workers makes in
+    by_item word words now next.0 expects.Word expects.Word items command workers (with_switch option now)
+    (of_kind word now (read.switch option) (kind_of-switch option)) next.1 (at_word words items spells) next.2
 spelled word words now _ command workers (joined option value item _ items says spells) makes =
     let next = moved item now items command workers makes in
     by_item word words now next.0 expects.Word expects.Word items command workers (with_value option value now)
@@ -188,13 +188,14 @@ back_word read.plain word words now next command workers says steps left =
       spells = at_word (word ∷ words) (operand word ∷ items.0) (plain word words items.0 says items.1);
       makes = moved_back (operand word) now made.0 items.0 command workers made.1 items.2;
     }
-back_word read.switch word words now next command workers says steps left =
-    let made = mapped expects.Word (with_alone now) next steps in
+back_word (read.switch option) word words now next command workers says steps left =
+    let made = mapped expects.Word (with_switch option now) next steps in
     let items = left_items made.0 words command workers (subst (λ n. IsLeft n words command workers) (sym made.2) left) in
     record {
-      items = alone ∷ items.0;
-      spells = at_word (word ∷ words) (alone ∷ items.0) (subst (λ w. Spells (w ∷ words) (alone ∷ items.0)) (sym says) (switch words items.0 items.1));
-      makes = moved_back alone now made.0 items.0 command workers made.1 items.2;
+      items = switched option ∷ items.0;
+      spells = at_word (word ∷ words) (switched option ∷ items.0)
+          (subst (λ w. Spells (w ∷ words) (switched option ∷ items.0)) (sym says) (switch option words items.0 items.1));
+      makes = moved_back (switched option) now made.0 items.0 command workers made.1 items.2;
     }
 back_word (read.joined option value) word words now next command workers says steps left =
     let made = mapped expects.Word (with_value option value now) next steps in

@@ -4,6 +4,8 @@ use Rattle.std.specs.Prelude.{map, drop, length, get_or, ◌<◌, ◌+◌, Strin
 use Rattle.std.proofs.lemmas.List.{drop_more, drop_all}
 use Rattle.std.proofs.lemmas.Slice.Eq.{bytes_eq-Decides}
 use Rattle.c_ast.specs.Bounds.{Bounds, bounds}
+use Rattle.command_line.specs.declared.switch.Switch.{Switch}
+use Rattle.command_line.specs.declared.switch.Switch.TheVariants.{Alone, History}
 use Rattle.command_line.specs.declared.setting.Setting.{Setting}
 use Rattle.command_line.specs.declared.setting.Setting.TheVariants.{Workers, Samples, Marks, Rows, Seed}
 use Rattle.command_line.specs.declared.given.Given.{Given}
@@ -16,10 +18,10 @@ use Rattle.command_line.specs.declared.words.Command.{Command}
 use Rattle.command_line.specs.declared.words.NoCommand.{NoCommand}
 use Rattle.command_line.specs.declared.words.NoCommand.TheVariants.{Usage, Memory}
 use Rattle.command_line.specs.Refused.{IsNoCommand}
-use Rattle.command_line.specs.CommandLine.{Item, end, numbers, Sets, AreWorkers, IsCommand, IsOneCommand, dashes, plain, switch, joined, apart}
+use Rattle.command_line.specs.CommandLine.{Item, end, numbers, switches, times, Sets, AreWorkers, IsCommand, IsOneCommand, dashes, plain, switch, joined, apart}
 use Rattle.command_line.specs.Read.{Refuses, nothing, number_of, reading, start, step, read}
 use Rattle.command_line.specs.Says.{chosen, chosen_of, command_of, SaysNumbers, IsEnd, Ends}
-use Rattle.command_line.proofs.Left.{Makes, file_list, count, number_in}
+use Rattle.command_line.proofs.Left.{Makes, file_list, all_switches, is_on_in, number_in}
 use Rattle.command_line.proofs.Steps.{SpellsFrom, at_word, at_operand, at_value, IsLeft, left_steps, steps_left}
 
 -- ---- all words
@@ -69,39 +71,48 @@ says_sets now command numbers Seed = chosen_sets Seed now.seed command.settings.
 -- ---- the files
 
 -- the command of two files
-abbrev made_of : Bounds → Option (List ℕ) → List ℕ → List ℕ → Command
-made_of numbers text first second = record { settings = numbers; condition = text; first = first; second = second }
+abbrev made_of : Bounds → Option (List ℕ) → Bool → List ℕ → List ℕ → Command
+made_of numbers text told first second = record { settings = numbers; condition = text; history = told; first = first; second = second }
 
--- the command's files are the two names, the first is not `make`, and its condition is the one that was given
-pub command_names : (now : Operands) (text : Option (List ℕ)) (command : Command) → command_of command.settings text now ≡ Some command
-    → (file_list now ++ [] ≡ command.first ∷ command.second ∷ []) × (command.first ≢ codes "make") × (text ≡ command.condition)
-command_names names.None text command is = absurd cc
-command_names (names.First first) text command is = absurd cc
-command_names (names.Both first second) text command is = by (bytes_eq first (codes "make")) refl is
+-- What the command says of its files, its condition and the history.
+record Names (now : Operands) (text : Option (List ℕ)) (told : Bool) (command : Command) : Type 0 where
+  pub files : file_list now ++ [] ≡ command.first ∷ command.second ∷ []
+  pub no_make : command.first ≢ codes "make"
+  pub texts : text ≡ command.condition
+  pub tells : told ≡ command.history
+
+command_names : (now : Operands) (text : Option (List ℕ)) (told : Bool) (command : Command)
+    → command_of command.settings text told now ≡ Some command → Names now text told command
+command_names names.None text told command is = absurd cc
+command_names (names.First first) text told command is = absurd cc
+command_names (names.Both first second) text told command is = by (bytes_eq first (codes "make")) refl is
   where
     by : (test : Bool) → bytes_eq first (codes "make") ≡ test
-        → (if test then None else Some (made_of command.settings text first second)) ≡ Some command
-        → (first ∷ second ∷ [] ≡ command.first ∷ command.second ∷ []) × (command.first ≢ codes "make") × (text ≡ command.condition)
+        → (if test then None else Some (made_of command.settings text told first second)) ≡ Some command
+        → Names (names.Both first second) text told command
     by true make is = absurd cc
     by false make is =
-        let same : made_of command.settings text first second ≡ command = cc in (
-          ap (λ (c : Command). c.first ∷ c.second ∷ []) same,
-          λ e. true≢false (sym ((bytes_eq-Decides first (codes "make")).1 (ap (λ (c : Command). c.first) same ∙ e)) ∙ make),
-          ap (λ (c : Command). c.condition) same,
-        )
+        let same : made_of command.settings text told first second ≡ command = cc in
+        record {
+          files = ap (λ (c : Command). c.first ∷ c.second ∷ []) same;
+          no_make = λ e. true≢false (sym ((bytes_eq-Decides first (codes "make")).1 (ap (λ (c : Command). c.first) same ∙ e)) ∙ make);
+          texts = ap (λ (c : Command). c.condition) same;
+          tells = ap (λ (c : Command). c.history) same;
+        }
 
-pub names_command : (now : Operands) (text : Option (List ℕ)) (command : Command) → file_list now ++ [] ≡ command.first ∷ command.second ∷ []
-    → command.first ≢ codes "make" → text ≡ command.condition → command_of command.settings text now ≡ Some command
-names_command names.None text command is no_make texts = absurd cc
-names_command (names.First first) text command is no_make texts = absurd cc
-names_command (names.Both first second) text command is no_make texts =
+names_command : (now : Operands) (text : Option (List ℕ)) (told : Bool) (command : Command) → Names now text told command
+    → command_of command.settings text told now ≡ Some command
+names_command names.None text told command says = let is = says.files in absurd cc
+names_command (names.First first) text told command says = let is = says.files in absurd cc
+names_command (names.Both first second) text told command says =
+    let is = says.files in
     let firsts : first ≡ command.first = cc in
     let seconds : second ≡ command.second = cc in
-    rw (firsts, seconds, texts) (by (bytes_eq command.first (codes "make")) refl)
+    rw (firsts, seconds, says.texts, says.tells) (by (bytes_eq command.first (codes "make")) refl)
   where
     by : (test : Bool) → bytes_eq command.first (codes "make") ≡ test
-        → (if test then None else Some (made_of command.settings command.condition command.first command.second)) ≡ Some command
-    by true make = absurd (no_make ((bytes_eq-Decides command.first (codes "make")).0 make))
+        → (if test then None else Some (made_of command.settings command.condition command.history command.first command.second)) ≡ Some command
+    by true make = absurd (says.no_make ((bytes_eq-Decides command.first (codes "make")).0 make))
     by false make = refl
 
 -- a text, or none, is found in its list
@@ -117,9 +128,20 @@ text_list (Some x) = refl
 
 -- ---- the end of the words
 
-alone_given : (before : Bool) → count before ≡ 1 → before ≡ true
-alone_given true once = refl
-alone_given false once = absurd cc
+same_turn : (one other : Bool) → times one ≡ times other → one ≡ other
+same_turn true true is = refl
+same_turn true false is = absurd cc
+same_turn false true is = absurd cc
+same_turn false false is = refl
+
+-- at the end a switch stood as often as it was on
+no_more : (turns : ℕ) → turns + 0 ≡ turns
+no_more turns = omega arith
+
+end_turns : (now : Given) (command : Command) → now.alone ≡ true → now.history ≡ command.history → (option : Switch)
+    → all_switches option now [] ≡ times (is_on_in command option)
+end_turns now command stood told Alone = no_more (times now.alone) ∙ ap times stood
+end_turns now command stood told History = no_more (times now.history) ∙ ap times told
 
 at_end : (now : Given) (command : Command) (workers : ℕ) (expected : Expects) → IsEnd expected → Makes now [] command workers
     → IsLeft (reading expected now) [] command workers
@@ -132,7 +154,7 @@ ended_at : (now : Given) (command : Command) (workers : ℕ) (expected : Expects
 ended_at now command workers _ _ _ none (at_word _ _ end) makes = (tt, makes)
 ended_at now command workers _ _ _ none (at_word _ _ (dashes _)) makes = absurd cc
 ended_at now command workers _ _ _ none (at_word _ _ (plain _ _ _ _ _)) makes = absurd cc
-ended_at now command workers _ _ _ none (at_word _ _ (switch _ _ _)) makes = absurd cc
+ended_at now command workers _ _ _ none (at_word _ _ (switch _ _ _ _)) makes = absurd cc
 ended_at now command workers _ _ _ none (at_word _ _ (joined _ _ _ _ _ _ _)) makes = absurd cc
 ended_at now command workers _ _ _ none (at_word _ _ (apart _ _ _ _ _ _ _ _)) makes = absurd cc
 ended_at now command workers _ _ _ none (at_operand []) makes = (tt, makes)
@@ -142,28 +164,32 @@ ended_at now command workers _ _ _ none (at_value _ _ _ _ _ _ _ _) makes = absur
 ends_left : (last : Reading) (command : Command) → Ends last command → (workers : ℕ) × IsLeft last [] command workers × (command.first ≢ codes "make")
 ends_left last command ends =
     let says = ends.says in
-    let names = command_names last.given.operands last.given.condition command says.files in
-    let switch_given : last.given.alone ≡ true = says.alone in
+    let names = command_names last.given.operands last.given.condition last.given.history command says.files in
     let workers = chosen_of Workers last.given in
     let makes : Makes last.given [] command workers = record {
-      alone_once = rw switch_given refl;
+      turns = end_turns last.given command says.alone names.tells;
       sets = says_sets last.given command says.numbers;
-      pre = text_list last.given.condition ∙ ap option_to_list names.2;
+      pre = text_list last.given.condition ∙ ap option_to_list names.texts;
       within = says.numbers.within;
       few_workers = says.numbers.workers;
-      names = names.0;
+      names = names.files;
     } in
-    (workers, at_end last.given command workers last.expects ends.end makes, names.1)
+    (workers, at_end last.given command workers last.expects ends.end makes, names.no_make)
 
 left_ends : (last : Reading) (command : Command) (workers : ℕ) → IsLeft last [] command workers → command.first ≢ codes "make" → Ends last command
 left_ends last command workers left no_make =
     let ended = ended_at last.given command workers last.expects [] left.items refl left.spells left.makes in
     let makes = ended.1 in
-    let once : count last.given.alone ≡ 1 = omega (arith, makes.alone_once) in
+    let names : Names last.given.operands last.given.condition last.given.history command = record {
+      files = makes.names;
+      no_make = no_make;
+      texts = one_text last.given.condition command.condition makes.pre;
+      tells = same_turn last.given.history command.history (sym (no_more (times last.given.history)) ∙ makes.turns History);
+    } in
     record {
       end = ended.0;
       says = record {
-        alone = alone_given last.given.alone once;
+        alone = same_turn last.given.alone true (sym (no_more (times last.given.alone)) ∙ makes.turns Alone);
         numbers = record {
           workers = subst AreWorkers (sym (sets_chosen Workers last.given.workers workers (makes.sets Workers))) makes.few_workers;
           samples = sets_chosen Samples last.given.samples command.settings.samples (makes.sets Samples);
@@ -172,7 +198,7 @@ left_ends last command workers left no_make =
           seed = sets_chosen Seed last.given.seed command.settings.seed (makes.sets Seed);
           within = makes.within;
         };
-        files = names_command last.given.operands last.given.condition command makes.names no_make (one_text last.given.condition command.condition makes.pre);
+        files = names_command last.given.operands last.given.condition last.given.history command names;
       };
     }
 
@@ -186,6 +212,15 @@ command_sets words command is Marks = is.marks
 command_sets words command is Rows = is.rows
 command_sets words command is Seed = is.seed
 
+-- no switch stood before the first word
+no_turns : (turns : ℕ) → 0 + turns ≡ turns
+no_turns turns = omega arith
+
+command_turns : (words : List (List ℕ)) (command : Command) (is : IsCommand words command) (option : Switch)
+    → all_switches option nothing is.items ≡ times (is_on_in command option)
+command_turns words command is Alone = no_turns (switches Alone is.items) ∙ is.alone_once
+command_turns words command is History = no_turns (switches History is.items) ∙ is.told
+
 no_number : (setting : Setting) → number_of setting nothing ≡ None
 no_number Workers = refl
 no_number Samples = refl
@@ -198,7 +233,7 @@ command_left words command is = record {
   items = is.items;
   spells = at_word words is.items is.spells;
   makes = record {
-    alone_once = omega (arith, is.alone_once);
+    turns = command_turns words command is;
     sets = λ setting. rw (no_number setting) (command_sets words command is setting);
     pre = is.pre;
     within = is.within;
@@ -231,7 +266,7 @@ reads_command words last command reads ends =
     by items (at_word _ _ spells) workers makes no_make = record {
       items = items;
       spells = spells;
-      alone_once = omega (arith, makes.alone_once);
+      alone_once = sym (no_turns (switches Alone items)) ∙ makes.turns Alone;
       workers = workers;
       some_workers = makes.sets Workers;
       few_workers = makes.few_workers;
@@ -240,6 +275,7 @@ reads_command words last command reads ends =
       rows = makes.sets Rows;
       seed = makes.sets Seed;
       within = makes.within;
+      told = sym (no_turns (switches History items)) ∙ makes.turns History;
       pre = makes.pre;
       files = makes.names;
       no_make = no_make;
@@ -274,9 +310,9 @@ one_end last one other ends also =
     ∙ ap (λ n. bounds other.settings.samples n one.settings.rows one.settings.seed) marks
     ∙ ap (λ n. bounds other.settings.samples other.settings.marks n one.settings.seed) rows
     ∙ ap (λ n. bounds other.settings.samples other.settings.marks other.settings.rows n) seed in
-    let files : command_of one.settings last.given.condition last.given.operands ≡ Some one = ends.says.files in
-    let other_files : command_of other.settings last.given.condition last.given.operands ≡ Some other = also.says.files in
-    let moved : Some one ≡ Some other = sym files ∙ ap (λ b. command_of b last.given.condition last.given.operands) settings ∙ other_files in
+    let files : command_of one.settings last.given.condition last.given.history last.given.operands ≡ Some one = ends.says.files in
+    let other_files : command_of other.settings last.given.condition last.given.history last.given.operands ≡ Some other = also.says.files in
+    let moved : Some one ≡ Some other = sym files ∙ ap (λ b. command_of b last.given.condition last.given.history last.given.operands) settings ∙ other_files in
     cc
 
 pub one_command_only : IsOneCommand

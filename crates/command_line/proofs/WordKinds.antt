@@ -8,10 +8,16 @@ use Rattle.command_line.specs.declared.setting.Setting.{Setting}
 use Rattle.command_line.specs.declared.setting.Setting.TheVariants.{Workers, Samples, Marks, Rows, Seed}
 use Rattle.command_line.specs.declared.setting.Valued.{Valued}
 use Rattle.command_line.specs.declared.setting.Valued.TheVariants.{Number, Pre}
-use Rattle.command_line.specs.CommandLine.{IsOperand, setting_name, name_of}
-use Rattle.command_line.specs.Read.{WordKind, dashes, plain, switch, joined, apart, unknown, is_operand, setting_named, option_named, joined_kind, apart_kind, kind_of}
+use Rattle.command_line.specs.declared.switch.Switch.{Switch}
+use Rattle.command_line.specs.declared.switch.Switch.TheVariants.{Alone, History}
+use Rattle.command_line.specs.CommandLine.{IsOperand, switch_name, setting_name, name_of}
+use Rattle.command_line.specs.Read.{WordKind, dashes, plain, switch, joined, apart, unknown, is_operand, switch_named, setting_named, option_named, joined_kind, apart_kind, option_kind, bare_kind, kind_of}
 
 -- ---- from a word to its kind
+
+pub kind_of-switch : (option : Switch) → kind_of (switch_name option) ≡ switch option
+kind_of-switch Alone = refl
+kind_of-switch History = refl
 
 pub kind_of-joined : (option : Valued) (value : List ℕ) → kind_of (name_of option ++ codes "=" ++ value) ≡ joined option value
 kind_of-joined (Number Workers) value = refl
@@ -43,7 +49,7 @@ kind_of-operand (byte ∷ next ∷ bytes) is = rw (no_dash byte is) refl
 abbrev pub KindSays : List ℕ → WordKind → Type 0
 KindSays word dashes = word ≡ codes "--"
 KindSays word plain = IsOperand word
-KindSays word switch = word ≡ codes "--alone"
+KindSays word (switch option) = word ≡ switch_name option
 KindSays word (joined option value) = word ≡ name_of option ++ codes "=" ++ value
 KindSays word (apart option) = word ≡ name_of option
 KindSays word unknown = Unit {0}
@@ -52,6 +58,11 @@ by_test : (word : List ℕ) (test : Bool) (one other : WordKind) → (test ≡ t
     → KindSays word (if test then one else other)
 by_test word true one other holds fails = holds refl
 by_test word false one other holds fails = fails refl
+
+-- What the name of a switch that was looked up says of the name.
+abbrev SwitchSays : List ℕ → Option Switch → Type 0
+SwitchSays name None = Unit {0}
+SwitchSays name (Some option) = name ≡ switch_name option
 
 -- What a name that was looked up says of the name.
 abbrev NameSays : List ℕ → Option Setting → Type 0
@@ -70,6 +81,16 @@ by_name name false one other holds fails = fails
 
 same_bytes : (one other : List ℕ) → bytes_eq one other ≡ true → one ≡ other
 same_bytes one other = (bytes_eq-Decides one other).0
+
+by_switch : (name : List ℕ) (test : Bool) (one other : Option Switch) → (test ≡ true → SwitchSays name one) → SwitchSays name other
+    → SwitchSays name (if test then one else other)
+by_switch name true one other holds fails = holds refl
+by_switch name false one other holds fails = fails
+
+switch_named-says : (name : List ℕ) → SwitchSays name (switch_named name)
+switch_named-says name =
+    by_switch name (bytes_eq name (codes "--alone")) (Some Alone) _ (same_bytes name (codes "--alone"))
+    (by_switch name (bytes_eq name (codes "--history")) (Some History) None (same_bytes name (codes "--history")) tt)
 
 setting_named-says : (name : List ℕ) → NameSays name (setting_named name)
 setting_named-says name =
@@ -123,18 +144,26 @@ apart_kind-says : (word : List ℕ) (found : Option Valued) → OptionSays word 
 apart_kind-says word None says = tt
 apart_kind-says word (Some option) says = says
 
+bare_kind-says : (word : List ℕ) (found : Option Switch) (other : WordKind) → SwitchSays word found → KindSays word other
+    → KindSays word (bare_kind found other)
+bare_kind-says word None other says also = also
+bare_kind-says word (Some option) other says also = says
+
 is_operand-says : (word : List ℕ) → is_operand word ≡ true → IsOperand word
 is_operand-says [] is = tt
 is_operand-says (byte ∷ []) is = tt
 is_operand-says (byte ∷ next ∷ bytes) is = λ dash. true≢false (sym is ∙ rw dash refl)
 
+option_kind-says : (word : List ℕ) → KindSays word (option_kind word)
+option_kind-says word =
+    by_test word (list_any (λ b. b == 61) word)
+    (joined_kind (option_named (before_first (λ b. b == 61) word)) (after_first (λ b. b == 61) word)) (apart_kind (option_named word))
+    (λ some. joined_kind-says word (before_first (λ b. b == 61) word) (after_first (λ b. b == 61) word) (option_named (before_first (λ b. b == 61) word))
+    (parts word some) (option_named-says (before_first (λ b. b == 61) word)))
+    (λ _. apart_kind-says word (option_named word) (option_named-says word))
+
 pub kind_of-says : (word : List ℕ) → KindSays word (kind_of word)
 kind_of-says word =
     by_test word (bytes_eq word (codes "--")) dashes _ (same_bytes word (codes "--"))
     (λ _. by_test word (is_operand word) plain _ (is_operand-says word)
-    (λ _. by_test word (bytes_eq word (codes "--alone")) switch _ (same_bytes word (codes "--alone"))
-    (λ _. by_test word (list_any (λ b. b == 61) word)
-    (joined_kind (option_named (before_first (λ b. b == 61) word)) (after_first (λ b. b == 61) word)) (apart_kind (option_named word))
-    (λ some. joined_kind-says word (before_first (λ b. b == 61) word) (after_first (λ b. b == 61) word) (option_named (before_first (λ b. b == 61) word))
-    (parts word some) (option_named-says (before_first (λ b. b == 61) word)))
-    (λ _. apart_kind-says word (option_named word) (option_named-says word)))))
+    (λ _. bare_kind-says word (switch_named word) (option_kind word) (switch_named-says word) (option_kind-says word)))

@@ -5,9 +5,16 @@ use Rattle.command_line.specs.declared.setting.Setting.{Setting}
 use Rattle.command_line.specs.declared.setting.Setting.TheVariants.{Workers, Samples, Marks, Rows, Seed}
 use Rattle.command_line.specs.declared.setting.Valued.{Valued}
 use Rattle.command_line.specs.declared.setting.Valued.TheVariants.{Number, Pre}
+use Rattle.command_line.specs.declared.switch.Switch.{Switch}
+use Rattle.command_line.specs.declared.switch.Switch.TheVariants.{Alone, History}
 use Rattle.c_ast.specs.Bounds.{AreBounds}
 use Rattle.command_line.specs.ConditionText.{IsConditionText}
 use Rattle.command_line.specs.declared.words.Command.{Command}
+
+-- The name of an option without a value.
+abbrev pub switch_name : Switch → List ℕ
+switch_name Alone = codes "--alone"
+switch_name History = codes "--history"
 
 -- The name of an option that takes a number.
 abbrev pub setting_name : Setting → List ℕ
@@ -42,7 +49,7 @@ pub record Writes (word : List ℕ) (number : ℕ) : Type 0 where
 
 -- What a word says, or an option's name and its value.
 pub data Item : Type 0 where
-  alone : Item
+  switched : Switch → Item
   given : Setting → ℕ → Item
   condition : List ℕ → Item
   operand : List ℕ → Item
@@ -71,8 +78,8 @@ pub data Spells : List (List ℕ) → List Item → Type 0 where
   dashes : (words : List (List ℕ)) → Spells (codes "--" ∷ words) (map operand words)
   plain : (word : List ℕ) (words : List (List ℕ)) (items : List Item) → IsOperand word → Spells words items
       → Spells (word ∷ words) (operand word ∷ items)
-  switch : (words : List (List ℕ)) (items : List Item) → Spells words items
-      → Spells (codes "--alone" ∷ words) (alone ∷ items)
+  switch : (option : Switch) (words : List (List ℕ)) (items : List Item) → Spells words items
+      → Spells (switch_name option ∷ words) (switched option ∷ items)
   joined : (option : Valued) (value : List ℕ) (item : Item) (words : List (List ℕ)) (items : List Item)
       → SpellsValue option value item → Spells words items
       → Spells ((name_of option ++ codes "=" ++ value) ∷ words) (item ∷ items)
@@ -83,23 +90,35 @@ pub data Spells : List (List ℕ) → List Item → Type 0 where
 -- The operands among the items.
 abbrev pub operands : List Item → List (List ℕ)
 operands [] = []
-operands (alone ∷ items) = operands items
+operands (switched option ∷ items) = operands items
 operands (given setting number ∷ items) = operands items
 operands (condition text ∷ items) = operands items
 operands (operand word ∷ items) = word ∷ operands items
 
--- How often `--alone` stands among the items.
-abbrev pub switches : List Item → ℕ
-switches [] = 0
-switches (alone ∷ items) = suc (switches items)
-switches (given setting number ∷ items) = switches items
-switches (condition text ∷ items) = switches items
-switches (operand word ∷ items) = switches items
+-- Whether both are one switch.
+abbrev pub is_same_switch : Switch → Switch → Bool
+is_same_switch Alone Alone = true
+is_same_switch History History = true
+is_same_switch _ _ = false
+
+-- How often the switch stands among the items.
+abbrev pub switches : Switch → List Item → ℕ
+switches option [] = 0
+switches option (switched other ∷ items) =
+    if is_same_switch other option then suc (switches option items) else switches option items
+switches option (given setting number ∷ items) = switches option items
+switches option (condition text ∷ items) = switches option items
+switches option (operand word ∷ items) = switches option items
+
+-- How often a switch stands: once where it is on, otherwise not at all.
+abbrev pub times : Bool → ℕ
+times true = 1
+times false = 0
 
 -- The texts of conditions among the items.
 abbrev pub conditions : List Item → List (List ℕ)
 conditions [] = []
-conditions (alone ∷ items) = conditions items
+conditions (switched option ∷ items) = conditions items
 conditions (given setting number ∷ items) = conditions items
 conditions (condition text ∷ items) = text ∷ conditions items
 conditions (operand word ∷ items) = conditions items
@@ -116,7 +135,7 @@ is_same _ _ = false
 -- The numbers that the option is given.
 abbrev pub numbers : Setting → List Item → List ℕ
 numbers setting [] = []
-numbers setting (alone ∷ items) = numbers setting items
+numbers setting (switched option ∷ items) = numbers setting items
 numbers setting (given other number ∷ items) =
     if is_same other setting then number ∷ numbers setting items else numbers setting items
 numbers setting (condition text ∷ items) = numbers setting items
@@ -129,11 +148,12 @@ Sets setting (first ∷ []) number = number ≡ first
 Sets setting (first ∷ second ∷ others) number = ⊥
 
 -- The words are a command line, and this is what they say: `--alone` stands once, each other option at most once, the
--- numbers are in their ranges, and two files are named, the first of which is not `make`.
+-- history is told exactly where `--history` stands, the numbers are in their ranges, and two files are named, the first
+-- of which is not `make`.
 pub record IsCommand (words : List (List ℕ)) (command : Command) : Type 0 where
   pub items : List Item
   pub spells : Spells words items
-  pub alone_once : switches items ≡ 1
+  pub alone_once : switches Alone items ≡ 1
   pub workers : ℕ
   pub some_workers : Sets Workers (numbers Workers items) workers
   pub few_workers : AreWorkers workers
@@ -142,6 +162,7 @@ pub record IsCommand (words : List (List ℕ)) (command : Command) : Type 0 wher
   pub rows : Sets Rows (numbers Rows items) command.settings.rows
   pub seed : Sets Seed (numbers Seed items) command.settings.seed
   pub within : AreBounds command.settings
+  pub told : switches History items ≡ times command.history
   pub pre : conditions items ≡ option_to_list command.condition
   pub files : operands items ≡ command.first ∷ command.second ∷ []
   pub no_make : command.first ≢ codes "make"

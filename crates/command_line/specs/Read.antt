@@ -8,8 +8,10 @@ use Rattle.command_line.specs.declared.setting.Setting.{Setting}
 use Rattle.command_line.specs.declared.setting.Setting.TheVariants.{Workers, Samples, Marks, Rows, Seed}
 use Rattle.command_line.specs.declared.setting.Valued.{Valued}
 use Rattle.command_line.specs.declared.setting.Valued.TheVariants.{Number, Pre}
+use Rattle.command_line.specs.declared.switch.Switch.{Switch}
+use Rattle.command_line.specs.declared.switch.Switch.TheVariants as switches
 use Rattle.command_line.specs.declared.kind.Word.{Word}
-use Rattle.command_line.specs.declared.kind.Word.TheVariants.{Dashes, Operand, Alone, Joined, Apart, Unknown}
+use Rattle.command_line.specs.declared.kind.Word.TheVariants.{Dashes, Operand, Bare, Joined, Apart, Unknown}
 use Rattle.command_line.specs.declared.given.Given.{Given}
 use Rattle.command_line.specs.declared.given.Operands.{Operands}
 use Rattle.command_line.specs.declared.given.Operands.TheVariants as names
@@ -19,7 +21,13 @@ use Rattle.command_line.specs.declared.reading.Expects.TheVariants as expects
 use Rattle.command_line.specs.declared.words.NoCommand.{NoCommand}
 use Rattle.command_line.specs.declared.words.NoCommand.TheVariants.{Usage, Memory}
 
--- The option of this name.
+-- The option of this name, among all without a value.
+abbrev pub switch_named : List ℕ → Option Switch
+switch_named name =
+    if bytes_eq name (codes "--alone") then Some switches.Alone
+    else (if bytes_eq name (codes "--history") then Some switches.History else None)
+
+-- The option of this name, among all that take a number.
 abbrev pub setting_named : List ℕ → Option Setting
 setting_named name =
     if bytes_eq name (codes "--workers") then Some Workers
@@ -36,7 +44,7 @@ option_named name = if bytes_eq name (codes "--pre") then Some Pre else option_m
 pub data WordKind : Type 0 where
   dashes : WordKind
   plain : WordKind
-  switch : WordKind
+  switch : Switch → WordKind
   joined : Valued → List ℕ → WordKind
   apart : Valued → WordKind
   unknown : WordKind
@@ -69,18 +77,22 @@ option_kind word =
     (after_first (λ b. b == 61) word)
     else apart_kind (option_named word)
 
+-- An option without a value, where the word is one.
+abbrev pub bare_kind : Option Switch → WordKind → WordKind
+bare_kind None other = other
+bare_kind (Some option) other = switch option
+
 -- What the word is.
 abbrev pub kind_of : List ℕ → WordKind
 kind_of word =
     if bytes_eq word (codes "--") then dashes
-    else (if is_operand word then plain
-    else (if bytes_eq word (codes "--alone") then switch else option_kind word))
+    else (if is_operand word then plain else bare_kind (switch_named word) (option_kind word))
 
 -- The kind without the reference to its text.
 abbrev pub word_kind : Word → WordKind
 word_kind Dashes = dashes
 word_kind Operand = plain
-word_kind Alone = switch
+word_kind (Bare option) = switch option
 word_kind (Joined option value) = joined option value.now
 word_kind (Apart option) = apart option
 word_kind Unknown = unknown
@@ -104,6 +116,7 @@ is_condition word = nat_le 1 (length word) && nat_le (length word) 4096
 abbrev pub nothing : Given
 nothing = record {
   alone = false;
+  history = false;
   workers = None;
   samples = None;
   marks = None;
@@ -112,6 +125,16 @@ nothing = record {
   condition = None;
   operands = names.None;
 }
+
+-- Whether the switch stood so far.
+abbrev pub is_on : Switch → Given → Bool
+is_on switches.Alone given = given.alone
+is_on switches.History given = given.history
+
+-- The same with the switch on.
+abbrev pub turned_on : Switch → Given → Given
+turned_on switches.Alone given = record given { alone = true }
+turned_on switches.History given = record given { history = true }
 
 -- The option's number so far.
 abbrev pub number_of : Setting → Given → Option ℕ
@@ -129,9 +152,9 @@ put Marks number given = record given { marks = Some number }
 put Rows number given = record given { rows = Some number }
 put Seed number given = record given { seed = Some number }
 
--- The same with `--alone`, which stands once.
-abbrev pub with_alone : Given → Option Given
-with_alone given = if given.alone then None else Some (record given { alone = true })
+-- The same with the switch on, where it did not stand before.
+abbrev pub with_switch : Switch → Given → Option Given
+with_switch option given = if is_on option given then None else Some (turned_on option given)
 
 -- The same with the option's number, where the option did not stand before.
 abbrev pub with_number : Setting → ℕ → Given → Option Given
@@ -176,7 +199,7 @@ start = reading expects.Word nothing
 abbrev pub word_step : WordKind → List ℕ → Given → Option Reading
 word_step dashes word given = Some (reading expects.Operand given)
 word_step plain word given = option_map (reading expects.Word) (with_operand word given)
-word_step switch word given = option_map (reading expects.Word) (with_alone given)
+word_step (switch option) word given = option_map (reading expects.Word) (with_switch option given)
 word_step (joined option value) word given = option_map (reading expects.Word) (with_value option value given)
 word_step (apart option) word given = Some (reading (expects.Value option) given)
 word_step unknown word given = None

@@ -1,5 +1,5 @@
 -- What words that were read say.
-use Rattle.std.specs.Prelude.{◌≡◌, bytes_eq, ℕ, true, if◌then◌else◌, List, Option, Some, None, codes}
+use Rattle.std.specs.Prelude.{◌≡◌, bytes_eq, ℕ, Bool, true, if◌then◌else◌, List, Option, Some, None, codes}
 use Rattle.c_ast.specs.Bounds.{Bounds, AreBounds}
 use Rattle.command_line.specs.declared.setting.Setting.{Setting}
 use Rattle.command_line.specs.declared.setting.Setting.TheVariants.{Workers, Samples, Marks, Rows, Seed}
@@ -32,18 +32,18 @@ pub record SaysNumbers (given : Given) (numbers : Bounds) : Type 0 where
   pub within : AreBounds numbers
 
 -- The command of two files, the first of which is not `make`.
-abbrev pub command_of : Bounds → Option (List ℕ) → Operands → Option Command
-command_of numbers condition names.None = None
-command_of numbers condition (names.First first) = None
-command_of numbers condition (names.Both first second) =
+abbrev pub command_of : Bounds → Option (List ℕ) → Bool → Operands → Option Command
+command_of numbers condition history names.None = None
+command_of numbers condition history (names.First first) = None
+command_of numbers condition history (names.Both first second) =
     if bytes_eq first (codes "make") then None
-    else Some (record { settings = numbers; condition = condition; first = first; second = second })
+    else Some (record { settings = numbers; condition = condition; history = history; first = first; second = second })
 
 -- `--alone` stood, each option has a number in its range, and two files were named, the first of which is not `make`.
 pub record Says (given : Given) (command : Command) : Type 0 where
   pub alone : given.alone ≡ true
   pub numbers : SaysNumbers given command.settings
-  pub files : command_of command.settings given.condition given.operands ≡ Some command
+  pub files : command_of command.settings given.condition given.history given.operands ≡ Some command
 
 -- The last word was no option that lacks its value.
 abbrev pub IsEnd : Expects → Type 0

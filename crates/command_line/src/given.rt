@@ -3,12 +3,13 @@ ghost use Rattle.std.specs.Prelude.{◌≡◌, None, Some, IfSome, IfNone, IfOk,
 ghost use Rattle.c_ast.specs.Bounds.{Bounds};
 ghost use Rattle.command_line.specs.CommandLine.{AreWorkers};
 ghost use Rattle.command_line.specs.declared.words.Command.{Command};
-ghost use Rattle.command_line.specs.Read.{nothing, number_of, one_more, with_alone, with_number, with_written, with_text, with_value, with_operand, Refuses};
+ghost use Rattle.command_line.specs.Read.{nothing, number_of, one_more, is_on, with_switch, with_number, with_written, with_text, with_value, with_operand, Refuses};
 ghost use Rattle.command_line.specs.Says.{Says, SaysNumbers, chosen_of, command_of};
 
 use crate::condition::ConditionText;
 use crate::kind::value;
 use crate::setting::{Setting, Valued};
+use crate::switch::Switch;
 use crate::words::{Command, NoCommand};
 use c_ast::{Name, Settings};
 use std::alloc::Global;
@@ -37,8 +38,13 @@ impl Operands {
     }
 
     // The command of two files, the first of which is not `make`.
-    fn command(self, settings: Settings, condition: Option<ConditionText>) -> Option<Command>
-        ensures { result ≡ command_of settings condition self }
+    fn command(
+        self,
+        settings: Settings,
+        condition: Option<ConditionText>,
+        history: bool,
+    ) -> Option<Command>
+        ensures { result ≡ command_of settings condition history self }
     {
         match self {
             Operands::Both(first, second) => {
@@ -48,6 +54,7 @@ impl Operands {
                     Some(Command {
                         settings,
                         condition,
+                        history,
                         first,
                         second,
                     })
@@ -62,6 +69,7 @@ impl Operands {
 #[derive(Drop)]
 pub(crate) struct Given {
     alone: bool,
+    history: bool,
     workers: Option<u64>,
     samples: Option<u64>,
     marks: Option<u64>,
@@ -78,6 +86,7 @@ impl Given {
     {
         Given {
             alone: false,
+            history: false,
             workers: None,
             samples: None,
             marks: None,
@@ -88,18 +97,18 @@ impl Given {
         }
     }
 
-    /// The same with `--alone`; `None` where it stood before.
-    pub(crate) fn with_alone(self) -> Option<Given>
-        ensures { result ≡ with_alone self }
+    /// The same with the switch on; `None` where it stood before.
+    pub(crate) fn with_switch(mut self, switch: Switch) -> Option<Given>
+        ensures { result ≡ with_switch switch self }
     {
-        if self.alone {
-            None
-        } else {
-            Some(Given {
-                alone: true,
-                ..self
-            })
+        if self.is_on(switch) {
+            return None;
         }
+        match switch {
+            Switch::Alone => self.alone = true,
+            Switch::History => self.history = true,
+        }
+        Some(self)
     }
 
     /// The same with the option's value.
@@ -144,8 +153,19 @@ impl Given {
             return None;
         }
         match self.settings() {
-            Some(settings) => self.operands.command(settings, self.condition),
+            Some(settings) => self
+                .operands
+                .command(settings, self.condition, self.history),
             None => None,
+        }
+    }
+
+    fn is_on(&self, switch: Switch) -> bool
+        ensures { result ≡ is_on switch self.now }
+    {
+        match switch {
+            Switch::Alone => self.alone,
+            Switch::History => self.history,
         }
     }
 

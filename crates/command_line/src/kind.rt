@@ -3,6 +3,7 @@ ghost use Rattle.std.specs.Prelude.{◌≡◌};
 ghost use Rattle.command_line.specs.Read.{begins_with_dash, is_operand, option_kind, kind_of, value_of, word_kind};
 
 use crate::setting::Valued;
+use crate::switch::Switch;
 
 /// What one word is.
 pub(crate) enum Word<'a> {
@@ -10,8 +11,8 @@ pub(crate) enum Word<'a> {
     Dashes,
     /// A word that begins with no dash, or is one dash alone.
     Operand,
-    /// The word `--alone`.
-    Alone,
+    /// An option without a value.
+    Bare(Switch),
     /// An option and its value.
     Joined(Valued, &'a str),
     /// An option whose value is the next word.
@@ -30,10 +31,10 @@ pub(crate) fn kind_of(word: &str) -> Word<'_>
     if is_operand(word) {
         return Word::Operand;
     }
-    if word == "--alone" {
-        return Word::Alone;
+    match Switch::named(word) {
+        Some(switch) => Word::Bare(switch),
+        None => option(word),
     }
-    option(word)
 }
 
 /// The number that the word writes, where it fits a `u64`.

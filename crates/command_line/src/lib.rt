@@ -9,6 +9,7 @@ mod given;
 mod kind;
 mod reading;
 mod setting;
+mod switch;
 #[cfg(test)]
 mod tests;
 mod words;

@@ -85,7 +85,7 @@ fn after_word(given: Given, alloc: Global, word: &str) -> Result<Reading, NoComm
             let given = given.with_operand(alloc, word)?;
             Ok(Reading::new(given, Expects::Word))
         }
-        Word::Alone => match given.with_alone() {
+        Word::Bare(switch) => match given.with_switch(switch) {
             Some(given) => Ok(Reading::new(given, Expects::Word)),
             None => Err(NoCommand::Usage),
         },

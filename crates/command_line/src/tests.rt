@@ -3,8 +3,8 @@ use crate::{NoCommand, read_command};
 use std::alloc::{AllocError, Global};
 use std::test::Fail;
 
-// What the words say: the samples, the marks, the rows, the seed, the two names, and a condition
-// behind `:`; or `usage`.
+// What the words say: the samples, the marks, the rows, the seed, the two names, a condition behind
+// `:`, and `+history` where the history is to be told; or `usage`.
 fn shown(alloc: Global, words: &[String]) -> Result<String, Fail> {
     let mut out = String::new(alloc);
     match read_command(alloc, words) {
@@ -16,6 +16,9 @@ fn shown(alloc: Global, words: &[String]) -> Result<String, Fail> {
             write!(out, "{} {}", command.first.text(), command.second.text())?;
             if let Some(condition) = &command.condition {
                 write!(out, ":{}", condition.text())?;
+            }
+            if command.history {
+                out.push_str("+history")?;
             }
         }
         Err(NoCommand::Usage) => out.push_str("usage")?,
@@ -34,7 +37,7 @@ fn words_of(alloc: Global, line: &str) -> Result<Vec<String>, AllocError> {
     Ok(words)
 }
 
-const COMMANDS: [(&str, &str); 37] = [
+const COMMANDS: [(&str, &str); 43] = [
     // Options before, between and after the names.
     ("--alone A.c B.c", "100 64 4000 0 A.c B.c"),
     ("A.c --alone B.c", "100 64 4000 0 A.c B.c"),
@@ -82,6 +85,19 @@ const COMMANDS: [(&str, &str); 37] = [
     ("--alone --pre=-n a b", "100 64 4000 0 a b:-n"),
     ("--alone a --pre=a==b b", "100 64 4000 0 a b:a==b"),
     ("--alone a b --pre=--pre", "100 64 4000 0 a b:--pre"),
+    // Histories.
+    ("--alone --history a b", "100 64 4000 0 a b+history"),
+    ("--history a --alone b", "100 64 4000 0 a b+history"),
+    (
+        "--pre n a b --alone --rows=8 --history",
+        "100 64 8 0 a b:n+history",
+    ),
+    ("--alone -- a --history", "100 64 4000 0 a --history"),
+    (
+        "--alone --history -- --history --alone",
+        "100 64 4000 0 --history --alone+history",
+    ),
+    ("--alone history b", "100 64 4000 0 history b"),
     // Operands.
     ("--alone - B.c", "100 64 4000 0 - B.c"),
     ("--alone -- -x --alone", "100 64 4000 0 -x --alone"),
@@ -104,7 +120,7 @@ fn command_lines_say_this(rt: HostRuntime) -> Result<(), Fail> {
     Ok(())
 }
 
-const REFUSED: [&str; 67] = [
+const REFUSED: [&str; 74] = [
     // Values that write no number.
     "--alone a b --samples +",
     "--alone a b --samples=+",
@@ -132,6 +148,8 @@ const REFUSED: [&str; 67] = [
     "--alone a b --samples 4294967297",
     // An option twice.
     "--alone --alone a b",
+    "--alone --history --history a b",
+    "--alone --history a --history b",
     "--alone a b --samples 5 --samples 5",
     "--alone a b --samples=5 --samples=6",
     "--alone a b --marks=5 --marks 5",
@@ -151,6 +169,9 @@ const REFUSED: [&str; 67] = [
     "--alone a b --pre - --seed=1",
     "--alone= a b",
     "--alone=1 a b",
+    "--alone --history= a b",
+    "--alone --history=1 a b",
+    "--alone a b --samples --history",
     // Words that are no option.
     "--alone a b --sample 5",
     "--alone a b --Samples 5",
@@ -162,8 +183,9 @@ const REFUSED: [&str; 67] = [
     "--alone a b --Pre=n",
     "--alone a b -h",
     "--alone a b --help",
-    "--alone a b --history",
-    "--history a b",
+    "--alone a b --histor",
+    "--alone a b --History",
+    "--alone a b -history",
     "---alone a b",
     // Operands: two, and the first is not `make`.
     "--alone",
@@ -176,6 +198,7 @@ const REFUSED: [&str; 67] = [
     // `--alone` is missing.
     "",
     "a b",
+    "--history a b",
     "-- --alone a",
     "a b -- --alone",
     "A.c -- --samples B.c",

@@ -15,6 +15,8 @@ pub struct Command {
     pub settings: Settings,
     /// The text of the condition that the inputs are to meet, where one is given.
     pub condition: Option<ConditionText>,
+    /// Whether the history is to be told too.
+    pub history: bool,
     /// The name of side A's file, which is never `make`.
     pub first: Name,
     /// The name of side B's file.
