@@ -1,16 +1,14 @@
--- Words and told texts lead to one outcome at most.
-use Rattle.std.proofs.Common.{◌≡◌, ◌≢◌, ℕ, ◌<◌, ◌≤◌, List, length, Option, Some, None, refl, sym, ap, ◌∙◌, subst, arith}
+-- What words and told texts lead to is alike.
+use Rattle.std.proofs.Common.{◌≡◌, ◌≢◌, ℕ, ◌<◌, ◌≤◌, Bool, List, length, Option, Some, None, refl, sym, ap, ◌∙◌, subst, arith}
 use Rattle.std.specs.Prelude.{codes}
 use Rattle.re_base.specs.Told.{IsLong, longest}
 use Rattle.c_ast.specs.declared.expr.Expr.{Expr}
 use Rattle.c_ast.specs.Function.{Function}
 use Rattle.c_ast.specs.Comparison.{Comparison, comparison}
-use Rattle.c_ast.specs.declared.trace.Pair.{Pair}
 use Rattle.command_line.specs.declared.words.Command.{Command}
 use Rattle.command_line.specs.CommandLine.{IsCommand}
 use Rattle.command_line.specs.Refused.{AreNoCommandLine}
 use Rattle.command_line.proofs.Laws.{one_command}
-use Rattle.report.specs.declared.early.Early.{Early}
 use Rattle.report.specs.declared.fault.Fault.{Fault}
 use Rattle.report.specs.declared.fault.Fault.TheVariants as fault
 use Rattle.llreve_cli.specs.Outcome as outcome
@@ -21,14 +19,13 @@ use Rattle.c_source.specs.declared.fault.TextFault.TheVariants as refusal
 use Rattle.c_source.specs.Reads.{Reads, IsRefusal}
 use Rattle.c_source.specs.ReadsCondition.{IsConditionRefusal}
 use Rattle.c_source.proofs.Laws.{one_reading, one_refusal, read_is_not_refused, one_condition, one_condition_refusal, read_condition_is_not_refused}
-use Rattle.llreve_cli.specs.Compare.{Compares}
-use Rattle.llreve_cli.specs.Samples.{TellsApart}
+use Rattle.llreve_cli.specs.declared.judge.Finding.{Finding}
 use Rattle.llreve_cli.specs.Written.{fault_status, status_of}
-use Rattle.llreve_cli.specs.Leads.{IsRead, AreFunctions, IsGivenCondition, IsUnread, RefusesBy}
+use Rattle.llreve_cli.specs.Leads.{IsRead, AreFunctions, AreComparable, IsGivenCondition, IsFindingOn, subject_of, IsUnread, RefusesBy}
 use Rattle.llreve_cli.specs.Leads.{RefusesText, RefusesGiven, arities, Leads, no_command, first_unread, second_unread}
 use Rattle.llreve_cli.specs.Leads.{first_refused, second_refused, other_arity, condition_refused, compared}
-use Rattle.llreve_cli.specs.Answers.{AreTold, SampleDiffers, HasOneOutcome}
-use Rattle.llreve_cli.proofs.OneVerdict.{verdict_once, apart_different}
+use Rattle.llreve_cli.specs.Answers.{AreTold, AreAlike, HasOneOutcome}
+use Rattle.pool_core.proofs.Laws.{are_of_one_kind}
 
 -- ---- a text is refused for one reason at most
 
@@ -140,9 +137,9 @@ data Judged (command : Command) (a b : List ℕ) : Outcome → Type 0 where
       → Judged command a b (outcome.Refused (fault.Arity (arities first second)))
   pre_bad : (first second : Function) (f : Fault) → ReadBoth a b first second → first.params ≡ second.params
       → RefusesGiven first command.condition f → Judged command a b (outcome.Refused f)
-  even : (first second : Function) (condition : Option Expr) (e : Early) → ReadBoth a b first second → first.params ≡ second.params
-      → IsGivenCondition first command.condition condition → Compares (comparison first second command.settings condition) e
-      → Judged command a b (outcome.Verdict e)
+  even : (first second : Function) (condition : Option Expr) (found : Finding) → ReadBoth a b first second → first.params ≡ second.params
+      → IsGivenCondition first command.condition condition
+      → IsFindingOn (comparison first second command.settings condition) command.history found → Judged command a b (outcome.Found found)
 
 -- the numbers of parameters are equal of both functions, or differ of both
 still_equal : (f g f' g' : Function) → (f ≡ f') × (g ≡ g') → f.params ≡ g.params → f'.params ≡ g'.params
@@ -162,7 +159,15 @@ given_clash command a b f g f' g' made why reads also is refuses =
     given_or_refused f' command.condition made why
     (subst (λ (f : Function). IsGivenCondition f command.condition made) (both_once a b f g f' g' reads also).0 is) refuses
 
-judged_once : (command : Command) (a b : List ℕ) (one other : Outcome) → Judged command a b one → Judged command a b other → one ≡ other
+-- Two findings on one comparison are alike.
+alike_on : (subject : Comparison) (with_history : Bool) (one other : Finding) → IsFindingOn subject with_history one
+    → IsFindingOn subject with_history other → AreAlike (outcome.Found one) (outcome.Found other)
+alike_on subject with_history one other is also = (
+  is.own ∙ sym also.own,
+  are_of_one_kind subject one.solved.verdict other.solved.verdict is.formed is.solved.solved.justified also.solved.solved.justified,
+)
+
+judged_once : (command : Command) (a b : List ℕ) (one other : Outcome) → Judged command a b one → Judged command a b other → AreAlike one other
 judged_once command a b one other (first_long over) (first_long over') =
     refl
 judged_once command a b one other (first_long over) (second_long short' over') =
@@ -196,7 +201,7 @@ judged_once command a b one other (first_bad f short_a short_b is) (first_long o
 judged_once command a b one other (first_bad f short_a short_b is) (second_long short' over') =
     absurd (omega (arith, over', short_b))
 judged_once command a b one other (first_bad f short_a short_b is) (first_bad f' short_a' short_b' is') =
-    ap (λ (f : Fault). outcome.Refused f) (text_once command.first a f f' is is')
+    text_once command.first a f f' is is'
 judged_once command a b one other (first_bad f short_a short_b is) (second_bad first' f' short_a' short_b' reads' is') =
     absurd (reads_or_refused command.first a first' f reads' is)
 judged_once command a b one other (first_bad f short_a short_b is) (uneven first' second' both' differ') =
@@ -212,7 +217,7 @@ judged_once command a b one other (second_bad first f short_a short_b reads is) 
 judged_once command a b one other (second_bad first f short_a short_b reads is) (first_bad f' short_a' short_b' is') =
     absurd (reads_or_refused command.first a first f' reads is')
 judged_once command a b one other (second_bad first f short_a short_b reads is) (second_bad first' f' short_a' short_b' reads' is') =
-    ap (λ (f : Fault). outcome.Refused f) (text_once command.second b f f' is is')
+    text_once command.second b f f' is is'
 judged_once command a b one other (second_bad first f short_a short_b reads is) (uneven first' second' both' differ') =
     absurd (reads_or_refused command.second b second' f both'.second_reads is)
 judged_once command a b one other (second_bad first f short_a short_b reads is) (pre_bad first' second' f' both' same' is') =
@@ -244,8 +249,8 @@ judged_once command a b one other (pre_bad first second f both same is) (second_
 judged_once command a b one other (pre_bad first second f both same is) (uneven first' second' both' differ') =
     absurd (differ' (still_equal first second first' second' (both_once a b first second first' second' both both') same))
 judged_once command a b one other (pre_bad first second f both same is) (pre_bad first' second' f' both' same' is') =
-    ap (λ (f : Fault). outcome.Refused f) (given_refused_once first' command.condition f f'
-    (subst (λ (first : Function). RefusesGiven first command.condition f) (both_once a b first second first' second' both both').0 is) is')
+    given_refused_once first' command.condition f f'
+    (subst (λ (first : Function). RefusesGiven first command.condition f) (both_once a b first second first' second' both both').0 is) is'
 judged_once command a b one other (pre_bad first second f both same is) (even first' second' condition' e' both' same' given' compares') =
     absurd (given_clash command a b first' second' first second condition' f both' both given' is)
 judged_once command a b one other (even first second condition e both same given compares) (first_long over') =
@@ -263,30 +268,34 @@ judged_once command a b one other (even first second condition e both same given
 judged_once command a b one other (even first second condition e both same given compares) (even first' second' condition' e' both' same' given' compares') =
     let functions = both_once a b first second first' second' both both' in
     let conditions = same_given command a b first second first' second' condition condition' both both' given given' in
-    ap (λ (e : Early). outcome.Verdict e) (verdict_once (comparison first' second' command.settings condition') e e'
-    (subst (λ (s : Comparison). Compares s e) (rw (functions.0, functions.1, conditions) refl) compares) compares')
+    alike_on (comparison first' second' command.settings condition') command.history e e'
+    (subst (λ (s : Comparison). IsFindingOn s command.history e) (rw (functions.0, functions.1, conditions) refl) compares) compares'
 
--- Where a sample tells the functions of the two texts apart, that is what they lead to.
-apart_judged : (command : Command) (a b : List ℕ) (f g : Function) (made : Option Expr) (index : ℕ) (pair : Pair) (o : Outcome) → ReadBoth a b f g
-    → f.params ≡ g.params → IsGivenCondition f command.condition made → index < command.settings.samples
-    → TellsApart (comparison f g command.settings made) index pair → Judged command a b o → status_of o ≡ 1
-apart_judged command a b f g made index pair o read equal is_made below apart (first_long over) =
+-- The outcome is a finding on the comparison.
+abbrev pub IsFoundOn : Comparison → Bool → Outcome → Type 0
+IsFoundOn subject with_history (outcome.Refused f) = ⊥
+IsFoundOn subject with_history (outcome.Found finding) = IsFindingOn subject with_history finding
+
+-- Functions that can be compared lead to a finding on them.
+found_judged : (command : Command) (a b : List ℕ) (f g : Function) (made : Option Expr) (o : Outcome) → ReadBoth a b f g
+    → f.params ≡ g.params → IsGivenCondition f command.condition made → Judged command a b o
+    → IsFoundOn (comparison f g command.settings made) command.history o
+found_judged command a b f g made o read equal is_made (first_long over) =
     absurd (omega (arith, over, read.short_first))
-apart_judged command a b f g made index pair o read equal is_made below apart (second_long _ over) =
+found_judged command a b f g made o read equal is_made (second_long _ over) =
     absurd (omega (arith, over, read.short_second))
-apart_judged command a b f g made index pair o read equal is_made below apart (first_bad why _ _ is) =
+found_judged command a b f g made o read equal is_made (first_bad why _ _ is) =
     absurd (reads_or_refused command.first a f why read.first_reads is)
-apart_judged command a b f g made index pair o read equal is_made below apart (second_bad _ why _ _ _ is) =
+found_judged command a b f g made o read equal is_made (second_bad _ why _ _ _ is) =
     absurd (reads_or_refused command.second b g why read.second_reads is)
-apart_judged command a b f g made index pair o read equal is_made below apart (uneven first second both differ) =
+found_judged command a b f g made o read equal is_made (uneven first second both differ) =
     absurd (differ (still_equal f g first second (both_once a b f g first second read both) equal))
-apart_judged command a b f g made index pair o read equal is_made below apart (pre_bad first second why both _ is) =
+found_judged command a b f g made o read equal is_made (pre_bad first second why both _ is) =
     absurd (given_clash command a b f g first second made why read both is_made is)
-apart_judged command a b f g made index pair o read equal is_made below apart (even first second condition e both _ given compares) =
+found_judged command a b f g made o read equal is_made (even first second condition finding both _ given is) =
     let functions = both_once a b first second f g both read in
     let conditions = same_given command a b first second f g condition made both read given is_made in
-    apart_different (comparison f g command.settings made) index pair e below apart
-    (subst (λ (s : Comparison). Compares s e) (rw (functions.0, functions.1, conditions) refl) compares)
+    subst (λ (s : Comparison). IsFindingOn s command.history finding) (rw (functions.0, functions.1, conditions) refl) is
 
 -- ---- from the words on
 
@@ -377,12 +386,12 @@ module _ (call : Call) (told : AreTold call) where
       settled_by functions.files.command functions.files.commands _ (uneven functions.first functions.second (read_both functions) differ)
   settled o is_read (condition_refused functions f same refuses) =
       settled_by functions.files.command functions.files.commands _ (pre_bad functions.first functions.second f (read_both functions) same refuses)
-  settled o is_read (compared comparable e compares) =
+  settled o is_read (compared comparable e is) =
       let functions = comparable.functions in
       settled_by functions.files.command functions.files.commands _
-      (even functions.first functions.second comparable.condition e (read_both functions) comparable.arity comparable.given compares)
+      (even functions.first functions.second comparable.condition e (read_both functions) comparable.arity comparable.given is)
 
-  settled_once : (one other : Outcome) → Settled one → Settled other → one ≡ other
+  settled_once : (one other : Outcome) → Settled one → Settled other → AreAlike one other
   settled_once one other (nothing _) (nothing _) = refl
   settled_once one other (nothing without) (judged command _ _ _ commands _ _ _) = absurd (without command commands)
   settled_once one other (judged command _ _ _ commands _ _ _) (nothing without) = absurd (without command commands)
@@ -394,10 +403,11 @@ module _ (call : Call) (told : AreTold call) where
       (subst (λ (list : List ℕ). Judged command' a' list one) seconds (subst (λ (list : List ℕ). Judged command' list b one) firsts
       (subst (λ (c : Command). Judged c a b one) same is))) also
 
-  apart_settled : (different : SampleDiffers call) (o : Outcome) → Settled o → status_of o ≡ 1
-  apart_settled different o (nothing without) = absurd (without different.comparable.functions.files.command different.comparable.functions.files.commands)
-  apart_settled different o (judged command a b _ commands is_first is_second is) =
-      let functions = different.comparable.functions in
+  found_settled : (comparable : AreComparable call) (o : Outcome) → Settled o
+      → IsFoundOn (subject_of comparable) comparable.functions.files.command.history o
+  found_settled comparable o (nothing without) = absurd (without comparable.functions.files.command comparable.functions.files.commands)
+  found_settled comparable o (judged command a b _ commands is_first is_second is) =
+      let functions = comparable.functions in
       let files = functions.files in
       let same : files.command ≡ command = one_command call.words files.command command files.commands commands in
       let first = read_told files.command.first files.first_text a (ap (λ (c : Command). call.text c.first) same ∙ is_first) files.first_read in
@@ -408,19 +418,15 @@ module _ (call : Call) (told : AreTold call) where
         first_reads = subst (λ (list : List ℕ). Reads list functions.first) first.0 functions.first_parsed;
         second_reads = subst (λ (list : List ℕ). Reads list functions.second) second.0 functions.second_parsed;
       } in
-      apart_judged command a b functions.first functions.second different.comparable.condition different.index different.pair o both
-      different.comparable.arity
-      (subst (λ (c : Command). IsGivenCondition functions.first c.condition different.comparable.condition) same different.comparable.given)
-      (subst (λ (c : Command). different.index < c.settings.samples) same different.below)
-      (subst (λ (c : Command). TellsApart (comparison functions.first functions.second c.settings different.comparable.condition)
-      different.index different.pair) same different.apart) is
+      found_judged files.command a b functions.first functions.second comparable.condition o both comparable.arity comparable.given
+      (subst (λ (c : Command). Judged c a b o) (sym same) is)
 
--- A call whose texts are told leads to one outcome at most, apart from a failed read.
+-- What a call leads to whose texts are told is alike, apart from a failed read.
 pub outcome_once : HasOneOutcome
 outcome_once call one other told is also is_read is_read' =
     settled_once call told one other (settled call told one is_read is) (settled call told other is_read' also)
 
--- Where a sample tells the functions apart, that is what the call leads to, unless a read failed.
-pub apart_once : (call : Call) (o : Outcome) → AreTold call → SampleDiffers call → Leads call o → status_of o ≢ 4
-    → status_of o ≡ 1
-apart_once call o told different is is_read = apart_settled call told different o (settled call told o is_read is)
+-- Functions that can be compared lead to a finding on them, unless a read failed.
+pub found_once : (call : Call) (o : Outcome) → AreTold call → (comparable : AreComparable call) → Leads call o → status_of o ≢ 4
+    → IsFoundOn (subject_of comparable) comparable.functions.files.command.history o
+found_once call o told comparable is is_read = found_settled call told comparable o (settled call told o is_read is)

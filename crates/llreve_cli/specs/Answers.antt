@@ -1,62 +1,79 @@
 -- What the statuses say of the two functions that a call names, and what is exact.
-use Rattle.std.specs.Prelude.{◌≡◌, ◌≢◌, ℕ, ◌<◌, List, Option, Some, ℤ}
+use Rattle.std.specs.Prelude.{◌≡◌, ◌≢◌, ◌⊎◌, ℕ, List, Some, ℤ}
 use Rattle.re_base.specs.Causes.{Rose}
 use Rattle.c_ast.specs.Function.{program_of}
-use Rattle.c_ast.specs.Returns.{Returns}
+use Rattle.c_ast.specs.Returns.{Returns, NeverDiffer}
 use Rattle.c_ast.specs.Condition.{Meets}
 use Rattle.c_ast.specs.Comparison.{condition_of}
-use Rattle.c_ast.specs.declared.trace.Pair.{Pair}
+use Rattle.alignment.specs.Number.{IsAlignment}
 use Rattle.command_line.specs.declared.words.Command.{Command}
 use Rattle.command_line.specs.CommandLine.{IsCommand}
-use Rattle.trace_pair.specs.declared.skipped.Skipped.{Skipped}
-use Rattle.report.specs.declared.early.Early.{Early}
-use Rattle.report.specs.declared.early.Early.TheVariants.{Different}
+use Rattle.relation.specs.Coupled.{Coupling}
+use Rattle.pool_core.specs.declared.verdict.Why.{Why}
+use Rattle.pool_core.specs.declared.verdict.SampleWhy.{SampleWhy}
+use Rattle.pool_core.specs.declared.verdict.Verdict.TheVariants.{Equivalent, Different, Unknown}
+use Rattle.pool_core.specs.Justified.{ShowsEquivalence, ShowsDifference, DecidesNothing}
+use Rattle.pool_core.specs.Kinds.{kind_of, IsHiddenFrom, NamesLimitAt, HasDifference, HasLinearFamily}
 use Rattle.report.specs.declared.fault.Fault.{Fault}
 use Rattle.report.specs.declared.fault.Fault.TheVariants.{Read}
-use Rattle.llreve_cli.specs.Outcome.{Outcome, Refused}
+use Rattle.workers.specs.Solved.{IsLeastDifference, IsLeastCoupling}
+use Rattle.llreve_cli.specs.declared.judge.Finding.{Finding}
+use Rattle.llreve_cli.specs.Outcome.{Outcome, Found, Refused}
 use Rattle.llreve_cli.specs.Call.{Call}
-use Rattle.llreve_cli.specs.Written.{fault_status, status_of}
-use Rattle.llreve_cli.specs.Compare.{HaveOneValue, IsUnknown}
-use Rattle.llreve_cli.specs.Samples.{TellsApart, IsDifference}
-use Rattle.llreve_cli.specs.Leads.{AreComparable, subject_of, Leads}
+use Rattle.llreve_cli.specs.Written.{fault_status, status_of, finding_text}
+use Rattle.llreve_cli.specs.Leads.{AreComparable, subject_of, IsFindingOf, Leads}
 
--- No input that meets the condition makes the two functions return differently.
-pub record AreEquivalent (call : Call) : Type 0 where
+-- ---- verdicts
+
+-- The two functions are compared, and this is found: the verdict is justified, the history is legal, and its last item
+-- posts the verdict, or that is concluded from it.
+pub record AreCompared (call : Call) : Type 0 where
   pub comparable : AreComparable call
-  pub value : HaveOneValue comparable.functions.first comparable.functions.second
-      (condition_of (subject_of comparable))
+  pub finding : Finding
+  pub is : IsFindingOf call comparable finding
+
+-- What tells it.
+abbrev pub text_of : {call : Call} → AreCompared call → List ℕ
+text_of compared = finding_text compared.finding
+
+-- A family couples the two functions, so no input that meets the condition makes them return differently. It is drawn
+-- from candidates of the pairs with these indexes: of all pairs that the samples give, the greatest linear family under
+-- the least alignment at which one was found.
+pub record AreEquivalent (call : Call) : Type 0 where
+  pub compared : AreCompared call
+  pub coupled : Coupling
+  pub indexes : List ℕ
+  pub verdict : compared.finding.solved.verdict ≡ Equivalent coupled indexes
+  pub shows : ShowsEquivalence (subject_of compared.comparable) coupled indexes
+  pub least : IsLeastCoupling (subject_of compared.comparable) compared.finding.solved.history coupled indexes
+  pub never_differ : NeverDiffer (program_of compared.comparable.functions.first)
+      (program_of compared.comparable.functions.second) (condition_of (subject_of compared.comparable))
 
 -- The two functions return differently on the input of the first sample that tells them apart, which meets the
 -- condition.
 pub record AreDifferent (call : Call) : Type 0 where
-  pub comparable : AreComparable call
+  pub compared : AreCompared call
   pub index : ℕ
   pub input : List ℤ
   pub first : ℤ
   pub second : ℤ
-  pub difference : IsDifference (subject_of comparable) index input first second
-  pub met : Meets (condition_of (subject_of comparable)) input
-  pub first_returns : Returns (program_of comparable.functions.first) input first
-  pub second_returns : Returns (program_of comparable.functions.second) input second
+  pub verdict : compared.finding.solved.verdict ≡ Different index input first second
+  pub shows : ShowsDifference (subject_of compared.comparable) index input first second
+  pub least : IsLeastDifference (subject_of compared.comparable) index
+  pub met : Meets (condition_of (subject_of compared.comparable)) input
+  pub first_returns : Returns (program_of compared.comparable.functions.first) input first
+  pub second_returns : Returns (program_of compared.comparable.functions.second) input second
 
--- The verdict that tells this sample, its input and the two results.
-abbrev pub difference_of : {call : Call} → AreDifferent call → Early
-difference_of d = Different d.index d.input d.first d.second
-
--- No form says that the two functions are equivalent, and no sample, among those that meet the condition, tells them
--- apart.
+-- What is said of each sample is so, and it decides nothing; and for each of the twelve alignments the reason is true
+-- why no candidates of all pairs couple the two functions.
 pub record AreUnknown (call : Call) : Type 0 where
-  pub comparable : AreComparable call
-  pub samples : List (Option Skipped)
-  pub unknown : IsUnknown (subject_of comparable) samples
+  pub compared : AreCompared call
+  pub samples : List SampleWhy
+  pub alignments : List Why
+  pub verdict : compared.finding.solved.verdict ≡ Unknown samples alignments
+  pub nothing : DecidesNothing (subject_of compared.comparable) samples alignments
 
--- Some sample tells the two functions apart.
-pub record SampleDiffers (call : Call) : Type 0 where
-  pub comparable : AreComparable call
-  pub index : ℕ
-  pub pair : Pair
-  pub below : index < comparable.functions.files.command.settings.samples
-  pub apart : TellsApart (subject_of comparable) index pair
+-- ---- refusals
 
 -- The words, a text, the numbers of parameters or the condition are refused: of all refusals this is the first in the
 -- order of judgement.
@@ -71,6 +88,25 @@ pub record AreUnread (call : Call) : Type 0 where
   pub failed : Rose (call.faults_before name) (call.faults_after name)
   pub leads : Leads call (Refused (Read name))
 
+-- ---- completeness
+
+-- Some sample tells the two functions apart.
+pub record SampleDiffers (call : Call) : Type 0 where
+  pub comparable : AreComparable call
+  pub difference : HasDifference (subject_of comparable)
+
+-- Under the alignment some family of candidates of all pairs is linear: it would couple the two functions.
+pub record HasCoupling (call : Call) : Type 0 where
+  pub comparable : AreComparable call
+  pub alignment : ℕ
+  pub named : IsAlignment alignment
+  pub linear : HasLinearFamily (subject_of comparable) alignment
+
+-- Nothing is known, and the reason at that alignment is a limit of an obligation.
+pub record HidesCoupling {call : Call} (has : HasCoupling call) : Type 0 where
+  pub unknown : AreUnknown call
+  pub limited : NamesLimitAt has.alignment unknown.compared.finding.solved.verdict
+
 -- The files tell the texts of both names.
 pub record AreTold (call : Call) : Type 0 where
   pub first : (command : Command) → IsCommand call.words command
@@ -78,7 +114,18 @@ pub record AreTold (call : Call) : Type 0 where
   pub second : (command : Command) → IsCommand call.words command
       → (told : List ℕ) × (call.text command.second ≡ Some told)
 
--- A call whose texts are told leads to one outcome at most, apart from a failed read.
+-- Both are one refusal; or verdicts on one comparison and of one kind, unless one of them is unknown and names a limit
+-- of an obligation at the alignment of the other.
+abbrev pub AreAlike : Outcome → Outcome → Type 0
+AreAlike (Refused one) (Refused other) = one ≡ other
+AreAlike (Found one) (Found other) =
+    (one.subject ≡ other.subject)
+    × ((kind_of one.solved.verdict ≡ kind_of other.solved.verdict)
+    ⊎ (IsHiddenFrom one.solved.verdict other.solved.verdict ⊎ IsHiddenFrom other.solved.verdict one.solved.verdict))
+AreAlike (Refused one) (Found other) = ⊥
+AreAlike (Found one) (Refused other) = ⊥
+
+-- What a call leads to whose texts are told is alike, apart from a failed read.
 abbrev pub HasOneOutcome : Type 0
 HasOneOutcome = (call : Call) (one other : Outcome) → AreTold call → Leads call one → Leads call other
-    → status_of one ≢ 4 → status_of other ≢ 4 → one ≡ other
+    → status_of one ≢ 4 → status_of other ≢ 4 → AreAlike one other

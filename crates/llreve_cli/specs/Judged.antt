@@ -5,12 +5,12 @@ use Rattle.c_ast.specs.Function.{Function}
 use Rattle.c_ast.specs.Comparison.{Comparison, comparison}
 use Rattle.command_line.specs.declared.words.Command.{Command}
 use Rattle.command_line.specs.Refused.{AreNoCommandLine}
-use Rattle.report.specs.declared.early.Early.{Early}
 use Rattle.report.specs.declared.fault.Fault.{Fault}
 use Rattle.report.specs.declared.fault.Fault.TheVariants as fault
+use Rattle.llreve_cli.specs.declared.judge.Finding.{Finding}
 use Rattle.llreve_cli.specs.declared.judge.NoVerdict.{NoVerdict}
 use Rattle.llreve_cli.specs.declared.judge.NoVerdict.TheVariants as no_verdict
-use Rattle.llreve_cli.specs.Outcome.{Verdict, Refused}
+use Rattle.llreve_cli.specs.Outcome.{Found, Refused}
 use Rattle.llreve_cli.specs.Call.{Call}
 use Rattle.llreve_cli.specs.Leads.{Leads, arities, IsGivenCondition, RefusesGiven}
 
@@ -33,7 +33,7 @@ RefusesSubject f g text (fault.Arity arity) = (arity ≡ arities f g) × (f.para
 RefusesSubject f g text why = (f.params ≡ g.params) × RefusesGiven f text why
 
 -- The answer is the outcome that the call leads to, unless memory ran out.
-abbrev pub Judges : Call → Result Early NoVerdict → Type 0
-Judges call (Ok early) = Leads call (Verdict early)
+abbrev pub Judges : Call → Result Finding NoVerdict → Type 0
+Judges call (Ok finding) = Leads call (Found finding)
 Judges call (Err (no_verdict.Refused fault)) = Leads call (Refused fault)
 Judges call (Err no_verdict.Memory) = Unit {0}

@@ -1,24 +1,24 @@
 -- What the words and the files of a call lead to.
-use Rattle.std.specs.Prelude.{◌≡◌, ◌≢◌, ℕ, ◌≤◌, List, length, codes, Option, Some, None}
+use Rattle.std.specs.Prelude.{◌≡◌, ◌≢◌, ℕ, ◌≤◌, Bool, List, length, codes, Option, Some, None}
 use Rattle.re_base.specs.Causes.{Rose}
 use Rattle.re_base.specs.Told.{IsWhole, IsLong, longest}
 use Rattle.c_ast.specs.declared.expr.Expr.{Expr}
 use Rattle.c_ast.specs.Function.{Function}
-use Rattle.c_ast.specs.Comparison.{Comparison, comparison}
+use Rattle.c_ast.specs.Comparison.{Comparison, IsComparison, comparison}
 use Rattle.c_ast.specs.declared.subject.Arity.{Arity}
 use Rattle.command_line.specs.declared.words.Command.{Command}
 use Rattle.command_line.specs.CommandLine.{IsCommand}
 use Rattle.command_line.specs.Refused.{AreNoCommandLine}
-use Rattle.report.specs.declared.early.Early.{Early}
 use Rattle.report.specs.declared.fault.Fault.{Fault}
 use Rattle.report.specs.declared.fault.Fault.TheVariants as fault
 use Rattle.c_source.specs.declared.fault.TextFault.{TextFault}
 use Rattle.c_source.specs.declared.fault.TextFault.TheVariants as refusal
 use Rattle.c_source.specs.Reads.{Reads, IsRefusal}
 use Rattle.c_source.specs.ReadsCondition.{ReadsCondition, IsConditionRefusal}
-use Rattle.llreve_cli.specs.Outcome.{Outcome, Verdict, Refused}
+use Rattle.workers.specs.Solved.{IsSolvedAlone}
+use Rattle.llreve_cli.specs.declared.judge.Finding.{Finding}
+use Rattle.llreve_cli.specs.Outcome.{Outcome, Found, Refused}
 use Rattle.llreve_cli.specs.Call.{Call}
-use Rattle.llreve_cli.specs.Compare.{Compares}
 
 -- These bytes were read: they are the told text, where one is told, and not too long.
 pub record IsRead (told : Option (List ℕ)) (bytes : List ℕ) : Type 0 where
@@ -62,6 +62,18 @@ abbrev pub subject_of : {call : Call} → AreComparable call → Comparison
 subject_of comparable =
     comparison comparable.functions.first comparable.functions.second comparable.functions.files.command.settings
     comparable.condition
+
+-- The finding is one on this comparison, by one worker alone, and its history is to be told or not.
+pub record IsFindingOn (subject : Comparison) (with_history : Bool) (finding : Finding) : Type 0 where
+  pub formed : IsComparison subject
+  pub own : finding.subject ≡ subject
+  pub asked : finding.with_history ≡ with_history
+  pub solved : IsSolvedAlone subject finding.solved
+
+-- So it is with the two functions, and the words ask for its history or do not.
+abbrev pub IsFindingOf : (call : Call) → AreComparable call → Finding → Type 0
+IsFindingOf call comparable finding =
+    IsFindingOn (subject_of comparable) comparable.functions.files.command.history finding
 
 -- The numbers of parameters of two functions.
 abbrev pub arities : Function → Function → Arity
@@ -114,5 +126,5 @@ pub data Leads (call : Call) : Outcome → Type 0 where
   condition_refused : (functions : AreFunctions call) (why : Fault)
       → functions.first.params ≡ functions.second.params
       → RefusesGiven functions.first functions.files.command.condition why → Leads call (Refused why)
-  compared : (comparable : AreComparable call) (early : Early) → Compares (subject_of comparable) early
-      → Leads call (Verdict early)
+  compared : (comparable : AreComparable call) (finding : Finding) → IsFindingOf call comparable finding
+      → Leads call (Found finding)

@@ -1,7 +1,3 @@
-pub mod Form
-pub mod NoForm
-pub mod Samples
-pub mod Compare
 pub mod Outcome
 pub mod Call
 pub mod Change

@@ -7,18 +7,27 @@ ghost use Rattle.command_line.specs.CommandLine.{IsCommand};
 ghost use Rattle.c_source.specs.Reads.{Reads};
 ghost use Rattle.c_source.specs.ReadsCondition.{ReadsCondition};
 ghost use Rattle.llreve_cli.specs.Call.{call};
-ghost use Rattle.llreve_cli.specs.Leads.{IsRead, IsGivenCondition, arities};
+ghost use Rattle.llreve_cli.specs.Leads.{IsRead, IsGivenCondition, IsFindingOn, arities};
 ghost use Rattle.llreve_cli.specs.Leads.{RefusesRead, RefusesText, RefusesCondition, RefusesGiven};
 ghost use Rattle.llreve_cli.specs.NoVerdict.{IfRefused};
 ghost use Rattle.llreve_cli.specs.Judged.{IsSubject, RefusesWords, RefusesSubject, Judges};
 
-use crate::compare::compare;
 use c_ast::{Arity, Expr, Func, Name, Settings, Subject};
 use c_source::{TextFault, read_condition, read_function};
 use command_line::{Command, ConditionText, NoCommand, read_command};
 use re_base::{FileFault, Files};
-use report::{Early, Fault};
+use report::Fault;
 use std::alloc::{AllocError, Global};
+use workers::{Solved, solve_alone};
+
+/// What is found of the two functions that the words name.
+#[derive(Debug, Drop)]
+pub struct Finding {
+    pub subject: Subject,
+    /// Whether the words ask for the history.
+    pub with_history: bool,
+    pub solved: Solved,
+}
 
 /// Why there is no verdict.
 #[derive(Debug, Drop)]
@@ -176,10 +185,24 @@ fn subject_of(
     }
 }
 
+// What one worker alone finds of the subject's functions.
+fn compare(alloc: Global, subject: Subject, with_history: bool) -> Result<Finding, AllocError>
+    ensures { IfOk result (IsFindingOn subject with_history) }
+{
+    // What holds of each subject.
+    let _ = subject.first();
+    let solved = solve_alone(alloc, &subject)?;
+    Ok(Finding {
+        subject,
+        with_history,
+        solved,
+    })
+}
+
 /// What the words and the files lead to. The words are judged first, then each file is read, then
 /// the texts are parsed in turn, then the numbers of parameters and the condition are judged, and
 /// last the functions are compared.
-pub fn judge<F: Files>(alloc: Global, words: &[String], files: &mut F) -> Result<Early, NoVerdict>
+pub fn judge<F: Files>(alloc: Global, words: &[String], files: &mut F) -> Result<Finding, NoVerdict>
     ensures { Judges (call F.Files words.now files.old files.new) result }
 {
     let command = read_words(alloc, words)?;
@@ -188,5 +211,5 @@ pub fn judge<F: Files>(alloc: Global, words: &[String], files: &mut F) -> Result
     let first = read_func(alloc, &command.first, &first_text)?;
     let second = read_func(alloc, &command.second, &second_text)?;
     let subject = subject_of(alloc, first, second, &command)?;
-    Ok(compare(alloc, &subject)?)
+    Ok(compare(alloc, subject, command.history)?)
 }

@@ -10,11 +10,6 @@
 mod alone;
 mod judge;
 
-// Two functions compared: by their forms, or by samples.
-mod compare;
-mod form;
-mod samples;
-
 // The outcome told.
 mod status;
 mod tell;

@@ -1,8 +1,9 @@
 //! The statuses that the program ends with.
 ghost use Rattle.std.specs.Prelude.{◌≡◌};
-ghost use Rattle.llreve_cli.specs.Written.{early_status, fault_status};
+ghost use Rattle.llreve_cli.specs.Written.{verdict_status, fault_status};
 
-use report::{Early, Fault};
+use pool_core::Verdict;
+use report::Fault;
 
 /// The status of two functions that no input tells apart.
 pub const EQUIVALENT: u8 = 0;
@@ -26,13 +27,13 @@ pub const NOT_WRITTEN: u8 = 5;
 pub const NO_MEMORY: u8 = 6;
 
 /// The status of a verdict.
-pub fn early_status(early: &Early) -> u8
-    ensures { result ≡ early_status early.now }
+pub fn verdict_status(verdict: &Verdict) -> u8
+    ensures { result ≡ verdict_status verdict.now }
 {
-    match early {
-        Early::Equivalent => EQUIVALENT,
-        Early::Different { .. } => DIFFERENT,
-        Early::Unknown { .. } => UNKNOWN,
+    match verdict {
+        Verdict::Equivalent { .. } => EQUIVALENT,
+        Verdict::Different { .. } => DIFFERENT,
+        Verdict::Unknown { .. } => UNKNOWN,
     }
 }
 

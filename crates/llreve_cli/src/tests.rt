@@ -1,5 +1,5 @@
 //! The whole command over files and sinks in memory. A row's right side is the status, and what
-//! both sinks hold.
+//! both sinks hold, or its front as far as the indexes of the samples. `examples/` has whole texts.
 mod couplings;
 mod families;
 mod moves;
@@ -73,7 +73,7 @@ impl<'a> Run<'a> {
             second,
             reads: &[],
             puts: &[],
-            most: 200,
+            most: 4000,
         }
     }
 
@@ -92,7 +92,7 @@ impl<'a> Run<'a> {
 
     /// A sink of either output.
     fn sink(&self, alloc: Global) -> Result<MemSink, AllocError> {
-        MemSink::new(alloc, 200, self.most.max(1), self.puts.to_vec(alloc)?)
+        MemSink::new(alloc, 4000, self.most.max(1), self.puts.to_vec(alloc)?)
     }
 
     fn told_on(
@@ -141,8 +141,11 @@ fn told_with(
     Run::on(first, second).told(alloc, &words)
 }
 
-/// Two texts with equal results at all samples, which no form decides.
-const EQUAL: &str = "2|unknown\nequal 0-99\n|";
+/// Two texts that are equivalent, as all samples are pairs.
+const COUPLED: &str = "0|equivalent\nalignment 1\npairs 0-99\nnode ";
+
+/// Two texts with equal results at all samples, of which nothing more is known.
+const EQUAL: &str = "2|unknown\nequal 0-99\nalignment 1 ";
 
 // A sum that leaves 3 out, by a `continue` and by a branch.
 const SKIPPING: &str =
@@ -154,41 +157,37 @@ const STEPPING: &str =
 
 /// The texts of the two files, and what is told of them.
 const COMPARED: [(&str, &str, &str); 24] = [
-    (DOUBLE, TWICE, "0|equivalent\n|"),
+    (DOUBLE, TWICE, COUPLED),
     (
         "int f(int a){return a-a;}",
         "int g(int b){return 0;}",
-        "0|equivalent\n|",
+        COUPLED,
     ),
-    (
-        "int f(void){return 2*3+1;}",
-        "int f(){return 7;}",
-        "0|equivalent\n|",
-    ),
+    ("int f(void){return 2*3+1;}", "int f(){return 7;}", COUPLED),
     (
         "int f(void){return 010;}",
         "int f(void){return 8;}",
-        "0|equivalent\n|",
+        COUPLED,
     ),
     (
         "int f(int a, int b){\n\treturn 3*a - 2*b - a;\n}\n",
         "int f(int x, int y){ return +(2*(x-y)) ; }",
-        "0|equivalent\n|",
+        COUPLED,
     ),
     (
         "int f(int a){return -a;}",
         "extern long f(long a){return 0-a;}",
-        "0|equivalent\n|",
+        COUPLED,
     ),
     (
         "int f(int a){;return a;}",
         "int f(int a){return a;}",
-        "0|equivalent\n|",
+        COUPLED,
     ),
     (
         "int f(int a){return 1125899906842623;}",
         "int f(int a){return 1125899906842623;}",
-        "0|equivalent\n|",
+        COUPLED,
     ),
     // The least sample that tells the functions apart is told.
     (
@@ -225,7 +224,7 @@ const COMPARED: [(&str, &str, &str); 24] = [
     (
         "int f(int a){return a?a:a;}",
         "int f(int a){return a;}",
-        EQUAL,
+        COUPLED,
     ),
     (
         "int f(int a){return 9223372036854775807;}",
@@ -235,20 +234,20 @@ const COMPARED: [(&str, &str, &str); 24] = [
     (
         "int f(void){int x = x + 1; return x;}",
         "int f(void){return 1;}",
-        EQUAL,
+        COUPLED,
     ),
-    (SKIPPING, STEPPING, EQUAL),
+    (SKIPPING, STEPPING, COUPLED),
     (
         "int f(int n){int i=0; do i++; while(i<n); return i;}",
         "int f(int n){int i=1; while(i<n) i++; return i;}",
-        EQUAL,
+        COUPLED,
     ),
     (
         "int f(int a){int x=a; {int x=1; x=5;} return x;}",
         "int f(int a){return a;}",
-        EQUAL,
+        COUPLED,
     ),
-    (USERS_FIRST, USERS_SECOND, EQUAL),
+    (USERS_FIRST, USERS_SECOND, COUPLED),
     (
         "int f(int a){return a;}",
         "int f(int a,int b){return a;}",
@@ -267,7 +266,10 @@ const COMPARED: [(&str, &str, &str); 24] = [
 fn texts_are_compared(rt: HostRuntime) -> Result<(), Fail> {
     for (first, second, want) in COMPARED.as_slice() {
         let got = Run::on(first, second).told(rt.alloc(), &NAMES)?;
-        assert_eq!(rt; got.as_str(), *want, "{first} and {second}");
+        assert!(rt;
+            got.as_str().starts_with(want),
+            "{first} and {second}: {got}"
+        );
     }
     Ok(())
 }
@@ -284,13 +286,15 @@ const MANY: &str = "int f(void){int i=0; while(__mark(1) & (i<64)) i=i+1; return
 
 const OTHER: &str = "int f(int x){if (x < -18) return 1; return 0;}";
 
+const ONE_PAIR: &str = "0|equivalent\nalignment 1\npairs 0\nnode entry entry\nnode 1 1\n";
+
 /// The texts of the two files, the options, and what is told of them.
 const SAMPLED: [(&str, &str, &[&str], &str); 9] = [
     (
         SQUARES,
         SQUARED,
         &["--samples", "5"],
-        "2|unknown\nequal 0-1 3\nwide A 2 4\n|",
+        "2|unknown\nequal 0-1 3\nwide A 2 4\nalignment 1 ",
     ),
     (
         "int f(int x){return 1;}",
@@ -303,33 +307,33 @@ const SAMPLED: [(&str, &str, &[&str], &str); 9] = [
         "int f(int x){return 0*x*x;}",
         WAITING,
         &["--samples=5"],
-        "2|unknown\nequal 0\nnot-ended B 1-4\n|",
+        "0|equivalent\nalignment 1\npairs 0\nnode ",
     ),
     (
         SQUARES,
         WAITING,
         &["--samples=5"],
-        "2|unknown\nequal 0\nwide A 2 4\nnot-ended B 1 3\n|",
+        "2|unknown\nequal 0\nwide A 2 4\nnot-ended B 1 3\nalignment 1 ",
     ),
-    (FEW, FEW, &["--samples=1"], "2|unknown\nequal 0\n|"),
-    (MANY, MANY, &["--samples=1"], "2|unknown\nnot-ended A 0\n|"),
+    (FEW, FEW, &["--samples=1"], ONE_PAIR),
     (
         MANY,
         MANY,
-        &["--samples=1", "--marks=65"],
-        "2|unknown\nequal 0\n|",
+        &["--samples=1"],
+        "2|unknown\nnot-ended A 0\nalignment 1 ",
     ),
+    (MANY, MANY, &["--samples=1", "--marks=65"], ONE_PAIR),
     (
         "int f(int x){return 0*x*x;}",
         OTHER,
         &["--samples=9"],
-        "2|unknown\nequal 0-8\n|",
+        "2|unknown\nequal 0-8\nalignment 1 ",
     ),
     (
         DOUBLE,
         TWICE,
         &["--rows=1", "--workers=64", "--seed=7"],
-        "0|equivalent\n|",
+        COUPLED,
     ),
 ];
 
@@ -337,7 +341,10 @@ const SAMPLED: [(&str, &str, &[&str], &str); 9] = [
 fn samples_are_bounded(rt: HostRuntime) -> Result<(), Fail> {
     for (first, second, options, want) in SAMPLED.as_slice() {
         let got = told_with(rt.alloc(), first, second, options)?;
-        assert_eq!(rt; got.as_str(), *want, "{first} and {second}");
+        assert!(rt;
+            got.as_str().starts_with(want),
+            "{first} and {second}: {got}"
+        );
     }
     Ok(())
 }
@@ -345,6 +352,9 @@ fn samples_are_bounded(rt: HostRuntime) -> Result<(), Fail> {
 const GIVEN: &str = "int f(int a){return a;}";
 
 const SIZE: &str = "int f(int a){if (a < 0) return -a; return a;}";
+
+/// No input meets the condition, so nothing tells the functions apart.
+const NO_PAIR: &str = "0|equivalent\nalignment 1\npairs none\nnode ";
 
 /// The texts of the two files, the condition, and what is told of them.
 const CONDITIONED: [(&str, &str, &str, &str); 15] = [
@@ -358,7 +368,7 @@ const CONDITIONED: [(&str, &str, &str, &str); 15] = [
         GIVEN,
         SIZE,
         "--pre=a >= 0",
-        "2|unknown\nequal 0-2 4\nunmet pre 3\n|",
+        "0|equivalent\nalignment 1\npairs 0-2 4\nnode ",
     ),
     (
         GIVEN,
@@ -366,21 +376,20 @@ const CONDITIONED: [(&str, &str, &str, &str); 15] = [
         "--pre=a / 2 == 0 && a",
         "1|different\nsample 3\ninput -1\nA returns -1\nB returns 1\n|",
     ),
-    (GIVEN, DOUBLE, "--pre=0", "2|unknown\nunmet pre 0-4\n|"),
+    (GIVEN, DOUBLE, "--pre=0", NO_PAIR),
     (
         GIVEN,
         SIZE,
         "--pre=9223372036854775807 * 9223372036854775807",
-        "2|unknown\nwide pre 0-4\n|",
+        "2|unknown\nwide pre 0-4\nalignment 1 ",
     ),
-    // Equal forms never differ, whatever the condition.
-    (DOUBLE, TWICE, "--pre=0", "0|equivalent\n|"),
+    (DOUBLE, TWICE, "--pre=0", NO_PAIR),
     // The condition is over the first function's parameters, and is read after the arity.
     (
         DOUBLE,
         "int g(int b){return b+b;}",
         "--pre=a",
-        "0|equivalent\n|",
+        "0|equivalent\nalignment 1\npairs 1-4\nnode ",
     ),
     (
         DOUBLE,
@@ -431,47 +440,47 @@ const CONDITIONED: [(&str, &str, &str, &str); 15] = [
 fn conditions_bound_the_inputs(rt: HostRuntime) -> Result<(), Fail> {
     for (first, second, condition, want) in CONDITIONED.as_slice() {
         let got = told_with(rt.alloc(), first, second, &["--samples=5", condition])?;
-        assert_eq!(rt; got.as_str(), *want, "{condition}");
+        assert!(rt; got.as_str().starts_with(want), "{condition}: {got}");
     }
     Ok(())
 }
 
-const CHOSEN: &str = "int f(int a){return a ? a : a;}";
+const SQUARE: &str = "int f(int a){return a * a;}";
 
 /// Conditions with each operator, and which of the inputs 0, 1, 2, -1 and 7 meet them in C, told of
-/// two functions that are equal on all.
+/// two functions that are equal on all and that no family couples.
 #[rattlefmt::skip]
 const OPERATORS: [(&str, &str); 23] = [
-    ("--pre=a * (a - 1)", "2|unknown\nequal 2-4\nunmet pre 0-1\n|"),
-    ("--pre=a / 2", "2|unknown\nequal 2 4\nunmet pre 0-1 3\n|"),
-    ("--pre=a / -2 + 1", "2|unknown\nequal 0-1 3-4\nunmet pre 2\n|"),
-    ("--pre=a % 2", "2|unknown\nequal 1 3-4\nunmet pre 0 2\n|"),
-    ("--pre=a % -2 == 1", "2|unknown\nequal 1 4\nunmet pre 0 2-3\n|"),
-    ("--pre=a + 1", "2|unknown\nequal 0-2 4\nunmet pre 3\n|"),
-    ("--pre=a - 2", "2|unknown\nequal 0-1 3-4\nunmet pre 2\n|"),
-    ("--pre=a < 1", "2|unknown\nequal 0 3\nunmet pre 1-2 4\n|"),
-    ("--pre=a <= 1", "2|unknown\nequal 0-1 3\nunmet pre 2 4\n|"),
-    ("--pre=a > 1", "2|unknown\nequal 2 4\nunmet pre 0-1 3\n|"),
-    ("--pre=a >= 1", "2|unknown\nequal 1-2 4\nunmet pre 0 3\n|"),
-    ("--pre=a == 1", "2|unknown\nequal 1\nunmet pre 0 2-4\n|"),
-    ("--pre=a != 1", "2|unknown\nequal 0 2-4\nunmet pre 1\n|"),
-    ("--pre=a && a - 1", "2|unknown\nequal 2-4\nunmet pre 0-1\n|"),
-    ("--pre=a / 2 || a + 1", "2|unknown\nequal 0-2 4\nunmet pre 3\n|"),
-    ("--pre=!a", "2|unknown\nequal 0\nunmet pre 1-4\n|"),
-    ("--pre=-a > 0", "2|unknown\nequal 3\nunmet pre 0-2 4\n|"),
-    ("--pre=+a", "2|unknown\nequal 1-4\nunmet pre 0\n|"),
-    ("--pre=a ? a - 1 : 1", "2|unknown\nequal 0 2-4\nunmet pre 1\n|"),
-    ("--pre=(a + 1) * 2", "2|unknown\nequal 0-2 4\nunmet pre 3\n|"),
-    ("--pre=a + 1 * -2", "2|unknown\nequal 0-1 3-4\nunmet pre 2\n|"),
-    ("--pre=- -a == +7 || !!a == a", "2|unknown\nequal 0-1 4\nunmet pre 2-3\n|"),
-    ("--pre=a < 0 || a > 1 && a != 7", "2|unknown\nequal 2-3\nunmet pre 0-1 4\n|"),
+    ("--pre=a * (a - 1)", "2|unknown\nequal 2-4\nunmet pre 0-1\nalignment 1 "),
+    ("--pre=a / 2", "2|unknown\nequal 2 4\nunmet pre 0-1 3\nalignment 1 "),
+    ("--pre=a / -2 + 1", "2|unknown\nequal 0-1 3-4\nunmet pre 2\nalignment 1 "),
+    ("--pre=a % 2", "2|unknown\nequal 1 3-4\nunmet pre 0 2\nalignment 1 "),
+    ("--pre=a % -2 == 1", "2|unknown\nequal 1 4\nunmet pre 0 2-3\nalignment 1 "),
+    ("--pre=a + 1", "2|unknown\nequal 0-2 4\nunmet pre 3\nalignment 1 "),
+    ("--pre=a - 2", "2|unknown\nequal 0-1 3-4\nunmet pre 2\nalignment 1 "),
+    ("--pre=a < 1", "2|unknown\nequal 0 3\nunmet pre 1-2 4\nalignment 1 "),
+    ("--pre=a <= 1", "2|unknown\nequal 0-1 3\nunmet pre 2 4\nalignment 1 "),
+    ("--pre=a > 1", "2|unknown\nequal 2 4\nunmet pre 0-1 3\nalignment 1 "),
+    ("--pre=a >= 1", "2|unknown\nequal 1-2 4\nunmet pre 0 3\nalignment 1 "),
+    ("--pre=a == 1", "2|unknown\nequal 1\nunmet pre 0 2-4\nalignment 1 "),
+    ("--pre=a != 1", "2|unknown\nequal 0 2-4\nunmet pre 1\nalignment 1 "),
+    ("--pre=a && a - 1", "2|unknown\nequal 2-4\nunmet pre 0-1\nalignment 1 "),
+    ("--pre=a / 2 || a + 1", "2|unknown\nequal 0-2 4\nunmet pre 3\nalignment 1 "),
+    ("--pre=!a", "2|unknown\nequal 0\nunmet pre 1-4\nalignment 1 "),
+    ("--pre=-a > 0", "2|unknown\nequal 3\nunmet pre 0-2 4\nalignment 1 "),
+    ("--pre=+a", "2|unknown\nequal 1-4\nunmet pre 0\nalignment 1 "),
+    ("--pre=a ? a - 1 : 1", "2|unknown\nequal 0 2-4\nunmet pre 1\nalignment 1 "),
+    ("--pre=(a + 1) * 2", "2|unknown\nequal 0-2 4\nunmet pre 3\nalignment 1 "),
+    ("--pre=a + 1 * -2", "2|unknown\nequal 0-1 3-4\nunmet pre 2\nalignment 1 "),
+    ("--pre=- -a == +7 || !!a == a", "2|unknown\nequal 0-1 4\nunmet pre 2-3\nalignment 1 "),
+    ("--pre=a < 0 || a > 1 && a != 7", "2|unknown\nequal 2-3\nunmet pre 0-1 4\nalignment 1 "),
 ];
 
 #[test]
 fn conditions_have_the_values_of_c(rt: HostRuntime) -> Result<(), Fail> {
     for (condition, want) in OPERATORS.as_slice() {
-        let got = told_with(rt.alloc(), GIVEN, CHOSEN, &["--samples=5", condition])?;
-        assert_eq!(rt; got.as_str(), *want, "{condition}");
+        let got = told_with(rt.alloc(), SQUARE, SQUARE, &["--samples=5", condition])?;
+        assert!(rt; got.as_str().starts_with(want), "{condition}: {got}");
     }
     Ok(())
 }
@@ -479,13 +488,10 @@ fn conditions_have_the_values_of_c(rt: HostRuntime) -> Result<(), Fail> {
 const USAGE: &str = "3||llreve: usage: llreve [options] FIRST SECOND\n";
 
 /// The words, and what is told.
-const WORDS: [(&[&str], &str); 12] = [
-    (&["A.c", "--alone", "B.c"], "0|equivalent\n|"),
-    (
-        &["--seed", "+007", "B.c", "--alone", "--", "A.c"],
-        "0|equivalent\n|",
-    ),
-    (&["--alone", "A.c", "A.c"], "0|equivalent\n|"),
+const WORDS: [(&[&str], &str); 13] = [
+    (&["A.c", "--alone", "B.c"], COUPLED),
+    (&["--seed", "+007", "B.c", "--alone", "--", "A.c"], COUPLED),
+    (&["--alone", "A.c", "A.c"], COUPLED),
     (
         &["--alone", "A.c", "make"],
         "4||llreve: make: cannot be read\n",
@@ -498,7 +504,12 @@ const WORDS: [(&[&str], &str); 12] = [
     (&["A.c", "B.c"], USAGE),
     (&["--alone", "A.c"], USAGE),
     (&["--alone", "make", "1"], USAGE),
-    (&["--alone", "A.c", "B.c", "--history"], USAGE),
+    (
+        &["--alone", "A.c", "B.c", "--history", "--samples=1"],
+        "0|history 3\n0 worker 0 pair 0\n1 worker 0 mined 1 alignment 1\n\
+        2 worker 0 posted equivalent\nequivalent\n",
+    ),
+    (&["--alone", "A.c", "B.c", "--history", "--history"], USAGE),
     (&["--alone", "A.c", "B.c", "--samples", "0"], USAGE),
     (
         &["--alone", "C.c", "B.c", "--samples=5", "--samples=5"],
@@ -510,7 +521,7 @@ const WORDS: [(&[&str], &str); 12] = [
 fn words_are_judged_first(rt: HostRuntime) -> Result<(), Fail> {
     for (words, want) in WORDS.as_slice() {
         let got = Run::on(DOUBLE, TWICE).told(rt.alloc(), words)?;
-        assert_eq!(rt; got.as_str(), *want, "{words:?}");
+        assert!(rt; got.as_str().starts_with(want), "{words:?}: {got}");
     }
     Ok(())
 }
@@ -521,7 +532,7 @@ const READS: [(&str, u32, &str); 4] = [
     (DOUBLE, 1, "4||llreve: B.c: cannot be read\n"),
     // Both files are read before a text is parsed.
     ("", 1, "4||llreve: B.c: cannot be read\n"),
-    (DOUBLE, 2, "0|equivalent\n|"),
+    (DOUBLE, 2, COUPLED),
 ];
 
 /// What is told where the read with this number fails.
@@ -537,11 +548,8 @@ fn told_after(alloc: Global, first: &str, read: u32) -> Result<String, AllocErro
 #[test]
 fn reads_fail(rt: HostRuntime) -> Result<(), Fail> {
     for (first, read, want) in READS.as_slice() {
-        assert_eq!(rt;
-            told_after(rt.alloc(), first, *read)?.as_str(),
-            *want,
-            "read {read}"
-        );
+        let got = told_after(rt.alloc(), first, *read)?;
+        assert!(rt; got.as_str().starts_with(want), "read {read}: {got}");
     }
     Ok(())
 }
@@ -554,18 +562,26 @@ fn cut(alloc: Global, first: &str, call: u32) -> Result<String, AllocError> {
         most: 1,
         ..Run::on(first, TWICE)
     };
-    run.told(alloc, &NAMES)
+    run.told(alloc, &["--alone", "A.c", "B.c", "--samples=1"])
 }
 
-/// The text of the first file, and what is told on the output and on the errors' output.
+/// The text of the first file, and fronts of what is told on the output and on the errors' output.
 const WRITTEN: [(&str, &str, &str); 4] = [
-    (DOUBLE, "equivalent\n", ""),
+    (
+        DOUBLE,
+        "equivalent\nalignment 1\npairs 0\nnode entry entry\n  A.a - B.a = 0\nnode exit exit\n",
+        "",
+    ),
     (
         "int f(int a){return 1;}",
         "different\nsample 0\ninput 0\nA returns 1\nB returns 0\n",
         "",
     ),
-    ("int f(int a){return a?a+a:a;}", "unknown\nequal 0-99\n", ""),
+    (
+        "int f(int a){return a*a;}",
+        "unknown\nequal 0\nalignment 1 non-linear A entry\n",
+        "",
+    ),
     ("", "", "llreve: A.c: no function\n"),
 ];
 

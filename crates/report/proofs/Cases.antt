@@ -1,12 +1,13 @@
 -- Texts of small lists and answers, by computing.
-use Rattle.std.proofs.Common.{◌≡◌, [], ◌∷◌, refl, pos, negsuc, None}
+use Rattle.std.proofs.Common.{◌≡◌, [], ◌∷◌, refl, pos, negsuc}
 use Rattle.std.specs.Prelude.{codes}
 use Rattle.c_ast.specs.declared.place.Side.TheVariants.{A, B, Pre}
 use Rattle.graph_run.specs.declared.skip.Skip.TheVariants.{NotEnded, Wide, Unmet}
 use Rattle.std.specs.Fmt.{digits}
 use Rattle.report.specs.Indexes.{runs, indexes_text}
 use Rattle.report.specs.Samples.{indexes_where, skip_of, sample_lines}
-use Rattle.report.specs.Early.{different_text}
+use Rattle.pool_core.specs.declared.verdict.SampleWhy.TheVariants.{Equal}
+use Rattle.report.specs.Verdicts.{different_text}
 
 runs-gap : runs (0 ∷ 1 ∷ 3 ∷ []) ≡ (0, 1) ∷ (3, 3) ∷ []
 runs-gap = refl
@@ -28,10 +29,10 @@ indexes_text-falling : indexes_text (1 ∷ 0 ∷ []) ≡ codes "1 0"
 unfolding digits
 indexes_text-falling = refl
 
-indexes_where-wide : indexes_where (skip_of A Wide) (None ∷ skip_of A Wide ∷ skip_of B Wide ∷ skip_of A NotEnded ∷ skip_of A Wide ∷ []) ≡ 1 ∷ 4 ∷ []
+indexes_where-wide : indexes_where (skip_of A Wide) (Equal ∷ skip_of A Wide ∷ skip_of B Wide ∷ skip_of A NotEnded ∷ skip_of A Wide ∷ []) ≡ 1 ∷ 4 ∷ []
 indexes_where-wide = refl
 
-sample_lines-two : sample_lines (None ∷ None ∷ skip_of A Wide ∷ None ∷ skip_of A Wide ∷ []) ≡ codes "equal 0-1 3\nwide A 2 4\n"
+sample_lines-two : sample_lines (Equal ∷ Equal ∷ skip_of A Wide ∷ Equal ∷ skip_of A Wide ∷ []) ≡ codes "equal 0-1 3\nwide A 2 4\n"
 unfolding digits
 sample_lines-two = refl
 
@@ -42,7 +43,7 @@ sample_lines-order : sample_lines (skip_of B Wide ∷ skip_of B NotEnded ∷ ski
 unfolding digits
 sample_lines-order = refl
 
-sample_lines-pre : sample_lines (skip_of Pre Unmet ∷ skip_of A Wide ∷ skip_of Pre Wide ∷ None ∷ []) ≡ codes "equal 3\nunmet pre 0\nwide pre 2\nwide A 1\n"
+sample_lines-pre : sample_lines (skip_of Pre Unmet ∷ skip_of A Wide ∷ skip_of Pre Wide ∷ Equal ∷ []) ≡ codes "equal 3\nunmet pre 0\nwide pre 2\nwide A 1\n"
 unfolding digits
 sample_lines-pre = refl
 

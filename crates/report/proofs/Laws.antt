@@ -1,7 +1,10 @@
--- The public laws (src/law.rt), each with its proof: what the proofs of other crates may cite.
+-- The public laws (src/law.rt, src/fitting.rt), each with its proof: what the proofs of other crates may cite.
 use Rattle.report.specs.Laws.{HasRuns, HasNoOtherRuns, TellsCause, TellsEachOnce}
+use Rattle.report.specs.Fitting.{JustifiedVerdictsFit, LegalHistoriesAreKept}
 use Rattle.report.proofs.Runs as run
 use Rattle.report.proofs.Told as told
+use Rattle.report.proofs.VerdictsFit as fit
+use Rattle.report.proofs.ItemsKept as kept
 
 pub has_runs : HasRuns
 has_runs = run.are_runs
@@ -14,3 +17,9 @@ tells_cause = told.tells_cause
 
 pub tells_each_once : TellsEachOnce
 tells_each_once = told.tells_each_once
+
+pub justified_verdicts_fit : JustifiedVerdictsFit
+justified_verdicts_fit = fit.verdict_fits
+
+pub legal_histories_are_kept : LegalHistoriesAreKept
+legal_histories_are_kept = kept.items_kept

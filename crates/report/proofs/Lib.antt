@@ -1,6 +1,14 @@
 pub mod Cases
+pub mod TextSamples
 pub mod FaultCases
 pub mod Runs
 pub mod Joined
 pub mod Told
+pub mod Scopes
+pub mod NoMemory
+pub mod KeptLimits
+pub mod Widths
+pub mod LeftFits
+pub mod VerdictsFit
+pub mod ItemsKept
 pub mod Laws

@@ -1,5 +1,5 @@
 -- The laws of what is told of samples.
-use Rattle.std.proofs.Common.{◌≡◌, ℕ, zero, suc, ◌+◌, Bool, true, false, cond, ◌&&◌, List, [], ◌∷◌, get_or, Option, Some, None}
+use Rattle.std.proofs.Common.{◌≡◌, ℕ, zero, suc, ◌+◌, Bool, true, false, cond, ◌&&◌, List, [], ◌∷◌, get_or, Some}
 use Rattle.std.proofs.Common.{arith, refl, ap, sym, ◌∙◌, inl, inr, ◌⊎◌, ⊎_elim, subst}
 use Rattle.std.specs.Prelude.{Contains, slice_get, codes}
 use Rattle.std.proofs.lemmas.Option.{slice_get-get_or, same_Some}
@@ -10,6 +10,8 @@ use Rattle.graph_run.specs.declared.skip.Skip.{Skip}
 use Rattle.graph_run.specs.declared.skip.Skip.TheVariants.{NotEnded, Wide, Unmet, Memory}
 use Rattle.trace_pair.specs.declared.skipped.Skipped.{Skipped}
 use Rattle.trace_pair.specs.Pairs.{IsCauseOf}
+use Rattle.pool_core.specs.declared.verdict.SampleWhy.{SampleWhy}
+use Rattle.pool_core.specs.declared.verdict.SampleWhy.TheVariants as reason
 use Rattle.report.specs.Samples.{IsKeptSample, is_side, is_why, is_same, indexes_from, skip_of, causes}
 use Rattle.report.specs.Laws.{TellsCause, TellsEachOnce}
 
@@ -53,13 +55,13 @@ same_skip : (skipped other : Skipped) → skipped.side ≡ other.side → skippe
 same_skip skipped other side why =
     subst (λ (s : Side). skipped ≡ record { side = s; why = other.why }) side (subst (λ (w : Skip). skipped ≡ record { side = skipped.side; why = w }) why refl)
 
-same_from_test : (x y : Option Skipped) → is_same x y ≡ true → x ≡ y
-same_from_test None None e = refl
-same_from_test (Some skipped) (Some other) e =
+same_from_test : (x y : SampleWhy) → is_same x y ≡ true → x ≡ y
+same_from_test reason.Equal reason.Equal e = refl
+same_from_test (reason.Skipped skipped) (reason.Skipped other) e =
     let both = both_pass (is_side skipped.side other.side) (is_why skipped.why other.why) e in
-    ap Some (same_skip skipped other (side_from_test skipped.side other.side both.0) (why_from_test skipped.why other.why both.1))
-same_from_test None (Some other) e = absurd cc
-same_from_test (Some skipped) None e = absurd cc
+    ap reason.Skipped (same_skip skipped other (side_from_test skipped.side other.side both.0) (why_from_test skipped.why other.why both.1))
+same_from_test reason.Equal (reason.Skipped other) e = absurd cc
+same_from_test (reason.Skipped skipped) reason.Equal e = absurd cc
 
 is_side-same : (x : Side) → is_side x x ≡ true
 is_side-same A = refl
@@ -72,9 +74,9 @@ is_why-same Wide = refl
 is_why-same Unmet = refl
 is_why-same Memory = refl
 
-is_same-same : (x : Option Skipped) → is_same x x ≡ true
-is_same-same None = refl
-is_same-same (Some skipped) = rw (is_side-same skipped.side, is_why-same skipped.why) refl
+is_same-same : (x : SampleWhy) → is_same x x ≡ true
+is_same-same reason.Equal = refl
+is_same-same (reason.Skipped skipped) = rw (is_side-same skipped.side, is_why-same skipped.why) refl
 
 -- ---- the indexes of a cause
 
@@ -89,14 +91,14 @@ Contains-later : (x : ℕ) (xs : List ℕ) (y : ℕ) → Contains xs y → Conta
 Contains-later x xs y (k, within, is) = (suc k, omega arith, is)
 
 -- The sample at this place has the cause, and the place is counted from the start.
-abbrev IsPlaceOf : ℕ → Option Skipped → List (Option Skipped) → ℕ → Type 0
+abbrev IsPlaceOf : ℕ → SampleWhy → List SampleWhy → ℕ → Type 0
 IsPlaceOf start cause samples index = (k : ℕ) × (index ≡ start + k) × (slice_get samples k ≡ Some cause)
 
-place_later : (start : ℕ) (cause sample : Option Skipped) (samples : List (Option Skipped)) (index : ℕ)
+place_later : (start : ℕ) (cause sample : SampleWhy) (samples : List SampleWhy) (index : ℕ)
     → IsPlaceOf (suc start) cause samples index → IsPlaceOf start cause (sample ∷ samples) index
 place_later start cause sample samples index (k, is, has) = (suc k, omega arith, has)
 
-place_case : (t : Bool) (start : ℕ) (cause sample : Option Skipped) (samples : List (Option Skipped)) (index : ℕ)
+place_case : (t : Bool) (start : ℕ) (cause sample : SampleWhy) (samples : List SampleWhy) (index : ℕ)
     → is_same sample cause ≡ t → (Contains (indexes_from (suc start) cause samples) index → IsPlaceOf (suc start) cause samples index)
     → Contains (cond t (start ∷ indexes_from (suc start) cause samples) (indexes_from (suc start) cause samples)) index
     → IsPlaceOf start cause (sample ∷ samples) index
@@ -106,7 +108,7 @@ place_case true start cause sample samples index e later contains =
     (Contains-cons_cases start (indexes_from (suc start) cause samples) index contains)
 place_case false start cause sample samples index e later contains = place_later start cause sample samples index (later contains)
 
-place_from_contains : (start : ℕ) (cause : Option Skipped) (samples : List (Option Skipped)) (index : ℕ)
+place_from_contains : (start : ℕ) (cause : SampleWhy) (samples : List SampleWhy) (index : ℕ)
     → Contains (indexes_from start cause samples) index → IsPlaceOf start cause samples index
 place_from_contains start cause [] index (k, within, is) = absurd (omega arith)
 place_from_contains start cause (sample ∷ samples) index contains =
@@ -116,7 +118,7 @@ contains_more : (t : Bool) (start : ℕ) (indexes : List ℕ) (index : ℕ) → 
 contains_more true start indexes index contains = Contains-later start indexes index contains
 contains_more false start indexes index contains = contains
 
-contains_from_place : (start : ℕ) (cause : Option Skipped) (samples : List (Option Skipped)) (k index : ℕ)
+contains_from_place : (start : ℕ) (cause : SampleWhy) (samples : List SampleWhy) (k index : ℕ)
     → index ≡ start + k → slice_get samples k ≡ Some cause → Contains (indexes_from start cause samples) index
 contains_from_place start cause [] k index is has = absurd cc
 contains_from_place start cause (sample ∷ samples) zero index is has =
@@ -126,7 +128,7 @@ contains_from_place start cause (sample ∷ samples) (suc k) index is has =
     contains_more (is_same sample cause) start (indexes_from (suc start) cause samples) index
     (contains_from_place (suc start) cause samples k index (omega arith) has)
 
-from_start : (cause : Option Skipped) (samples : List (Option Skipped)) (index : ℕ) → IsPlaceOf 0 cause samples index → slice_get samples index ≡ Some cause
+from_start : (cause : SampleWhy) (samples : List SampleWhy) (index : ℕ) → IsPlaceOf 0 cause samples index → slice_get samples index ≡ Some cause
 from_start cause samples index (k, is, has) =
     let same : index ≡ k = omega arith in
     rw same has
@@ -148,19 +150,19 @@ skip_words Pre Unmet = codes "unmet pre"
 skip_words Pre Wide = codes "wide pre"
 skip_words _ _ = []
 
-abbrev words_of : Option Skipped → List ℕ
-words_of None = codes "equal"
-words_of (Some skipped) = skip_words skipped.side skipped.why
+abbrev words_of : SampleWhy → List ℕ
+words_of reason.Equal = codes "equal"
+words_of (reason.Skipped skipped) = skip_words skipped.side skipped.why
 
 -- A row has the words of its cause.
-row_words : (row : Option Skipped × List ℕ) → Contains causes row → row.1 ≡ words_of row.0
-row_words row (zero, within, is) = subst (λ (r : Option Skipped × List ℕ). r.1 ≡ words_of r.0) is refl
-row_words row (suc zero, within, is) = subst (λ (r : Option Skipped × List ℕ). r.1 ≡ words_of r.0) is refl
-row_words row (suc (suc zero), within, is) = subst (λ (r : Option Skipped × List ℕ). r.1 ≡ words_of r.0) is refl
-row_words row (suc (suc (suc zero)), within, is) = subst (λ (r : Option Skipped × List ℕ). r.1 ≡ words_of r.0) is refl
-row_words row (suc (suc (suc (suc zero))), within, is) = subst (λ (r : Option Skipped × List ℕ). r.1 ≡ words_of r.0) is refl
-row_words row (suc (suc (suc (suc (suc zero)))), within, is) = subst (λ (r : Option Skipped × List ℕ). r.1 ≡ words_of r.0) is refl
-row_words row (suc (suc (suc (suc (suc (suc zero))))), within, is) = subst (λ (r : Option Skipped × List ℕ). r.1 ≡ words_of r.0) is refl
+row_words : (row : SampleWhy × List ℕ) → Contains causes row → row.1 ≡ words_of row.0
+row_words row (zero, within, is) = subst (λ (r : SampleWhy × List ℕ). r.1 ≡ words_of r.0) is refl
+row_words row (suc zero, within, is) = subst (λ (r : SampleWhy × List ℕ). r.1 ≡ words_of r.0) is refl
+row_words row (suc (suc zero), within, is) = subst (λ (r : SampleWhy × List ℕ). r.1 ≡ words_of r.0) is refl
+row_words row (suc (suc (suc zero)), within, is) = subst (λ (r : SampleWhy × List ℕ). r.1 ≡ words_of r.0) is refl
+row_words row (suc (suc (suc (suc zero))), within, is) = subst (λ (r : SampleWhy × List ℕ). r.1 ≡ words_of r.0) is refl
+row_words row (suc (suc (suc (suc (suc zero)))), within, is) = subst (λ (r : SampleWhy × List ℕ). r.1 ≡ words_of r.0) is refl
+row_words row (suc (suc (suc (suc (suc (suc zero))))), within, is) = subst (λ (r : SampleWhy × List ℕ). r.1 ≡ words_of r.0) is refl
 row_words row (suc (suc (suc (suc (suc (suc (suc k)))))), within, is) = absurd (omega arith)
 
 -- Each skip that is kept has a row.
@@ -178,20 +180,20 @@ skip_row Pre Wide kept = (2, omega arith, refl)
 skip_row Pre Unmet kept = (1, omega arith, refl)
 skip_row Pre Memory kept = absurd kept
 
-sample_row : (sample : Option Skipped) → IsKeptSample sample → Contains causes (sample, words_of sample)
-sample_row None kept = (0, omega arith, refl)
-sample_row (Some skipped) kept = skip_row skipped.side skipped.why kept
+sample_row : (sample : SampleWhy) → IsKeptSample sample → Contains causes (sample, words_of sample)
+sample_row reason.Equal kept = (0, omega arith, refl)
+sample_row (reason.Skipped skipped) kept = skip_row skipped.side skipped.why kept
 
-same_row : (sample : Option Skipped) (other : Option Skipped × List ℕ) → other.1 ≡ words_of other.0 → sample ≡ other.0 → other ≡ (sample, words_of sample)
+same_row : (sample : SampleWhy) (other : SampleWhy × List ℕ) → other.1 ≡ words_of other.0 → sample ≡ other.0 → other ≡ (sample, words_of sample)
 same_row sample other words same = rw same (subst (λ (text : List ℕ). other ≡ (other.0, text)) words refl)
 
 pub tells_each_once : TellsEachOnce
 tells_each_once samples index kept below =
-    let sample = get_or samples index None in
-    let there : slice_get samples index ≡ Some sample = slice_get-get_or samples index None below in
+    let sample = get_or samples index reason.Equal in
+    let there : slice_get samples index ≡ Some sample = slice_get-get_or samples index reason.Equal below in
     record {
       row = (sample, words_of sample);
-      among = sample_row sample (All-get_or IsKeptSample samples index None below kept);
+      among = sample_row sample (All-get_or IsKeptSample samples index reason.Equal below kept);
       told = (tells_cause samples sample index).1 there;
       once = λ other among told.
           same_row sample other (row_words other among) (same_Some sample other.0 (sym there ∙ (tells_cause samples other.0 index).0 told));

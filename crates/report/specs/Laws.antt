@@ -1,6 +1,6 @@
--- Laws of runs and of samples.
-use Rattle.std.specs.Prelude.{◌≡◌, ◌≢◌, ◌↔◌, ℕ, zero, suc, ◌-◌, ◌<◌, ◌≤◌, List, [], ◌∷◌, length, All, Contains, flat_map, slice_get, Option, Some}
-use Rattle.trace_pair.specs.declared.skipped.Skipped.{Skipped}
+-- Laws of runs, of samples, and of the texts of verdicts.
+use Rattle.std.specs.Prelude.{◌≡◌, ◌≢◌, ◌↔◌, ℕ, zero, suc, ◌-◌, ◌<◌, ◌≤◌, List, [], ◌∷◌, length, All, Contains, flat_map, slice_get, Some}
+use Rattle.pool_core.specs.declared.verdict.SampleWhy.{SampleWhy}
 use Rattle.report.specs.Indexes.{runs}
 use Rattle.report.specs.Samples.{IsKeptSample, indexes_where, causes}
 
@@ -35,18 +35,18 @@ HasNoOtherRuns = (indexes : List ℕ) (all : List (ℕ × ℕ)) → AreRunsOf in
 
 -- An index is told for a cause exactly if the sample there has it.
 abbrev pub TellsCause : Type 0
-TellsCause = (samples : List (Option Skipped)) (cause : Option Skipped) (index : ℕ)
+TellsCause = (samples : List SampleWhy) (cause : SampleWhy) (index : ℕ)
     → Contains (indexes_where cause samples) index ↔ (slice_get samples index ≡ Some cause)
 
 -- The index is told for exactly one of the causes.
-pub record IsToldOnce (samples : List (Option Skipped)) (index : ℕ) : Type 0 where
-  pub row : Option Skipped × List ℕ
+pub record IsToldOnce (samples : List SampleWhy) (index : ℕ) : Type 0 where
+  pub row : SampleWhy × List ℕ
   pub among : Contains causes row
   pub told : Contains (indexes_where row.0 samples) index
-  pub once : (other : Option Skipped × List ℕ) → Contains causes other → Contains (indexes_where other.0 samples) index
+  pub once : (other : SampleWhy × List ℕ) → Contains causes other → Contains (indexes_where other.0 samples) index
       → other ≡ row
 
 -- The index of each sample is told for exactly one of the causes.
 abbrev pub TellsEachOnce : Type 0
-TellsEachOnce = (samples : List (Option Skipped)) (index : ℕ)
+TellsEachOnce = (samples : List SampleWhy) (index : ℕ)
     → All IsKeptSample samples → index < length samples → IsToldOnce samples index

@@ -1,5 +1,10 @@
 pub mod Faults
 pub mod Indexes
 pub mod Samples
-pub mod Early
+pub mod Families
+pub mod Limits
+pub mod Verdicts
+pub mod Fits
+pub mod Histories
 pub mod Laws
+pub mod Fitting

@@ -1,18 +1,19 @@
 -- How it is told what came of the samples: equal results, or a skip.
-use Rattle.std.specs.Prelude.{ℕ, suc, Bool, true, false, ◌&&◌, ◌==◌, List, [], ◌∷◌, ◌++◌, length, codes, flat_map, if◌then◌else◌, Option, Some, None}
+use Rattle.std.specs.Prelude.{ℕ, suc, Bool, true, false, ◌&&◌, List, [], ◌∷◌, ◌++◌, codes, flat_map, if◌then◌else◌}
 use Rattle.c_ast.specs.declared.place.Side.{Side}
 use Rattle.c_ast.specs.declared.place.Side.TheVariants.{A, B, Pre}
 use Rattle.graph_run.specs.declared.skip.Skip.{Skip}
 use Rattle.graph_run.specs.declared.skip.Skip.TheVariants.{NotEnded, Wide, Unmet, Memory}
-use Rattle.trace_pair.specs.declared.skipped.Skipped.{Skipped}
 use Rattle.trace_pair.specs.Pairs.{IsCauseOf}
+use Rattle.pool_core.specs.declared.verdict.SampleWhy.{SampleWhy}
+use Rattle.pool_core.specs.declared.verdict.SampleWhy.TheVariants.{Equal, Skipped}
 use Rattle.report.specs.Indexes.{indexes_text}
 
 -- The cause of a skip is one of its side's: of the condition it is `Wide` or `Unmet`, and of a run `NotEnded` or
 -- `Wide`.
-abbrev pub IsKeptSample : Option Skipped → Type 0
-IsKeptSample None = Unit {0}
-IsKeptSample (Some skipped) = IsCauseOf skipped.side skipped.why
+abbrev pub IsKeptSample : SampleWhy → Type 0
+IsKeptSample Equal = Unit {0}
+IsKeptSample (Skipped skipped) = IsCauseOf skipped.side skipped.why
 
 -- Whether the sides are the same.
 abbrev pub is_side : Side → Side → Bool
@@ -30,31 +31,31 @@ is_why Memory Memory = true
 is_why _ _ = false
 
 -- Whether the sample is this one: equal results, or a skip of the side for the cause.
-abbrev pub is_same : Option Skipped → Option Skipped → Bool
-is_same None None = true
-is_same (Some skipped) (Some other) = is_side skipped.side other.side && is_why skipped.why other.why
-is_same None (Some other) = false
-is_same (Some skipped) None = false
+abbrev pub is_same : SampleWhy → SampleWhy → Bool
+is_same Equal Equal = true
+is_same (Skipped skipped) (Skipped other) = is_side skipped.side other.side && is_why skipped.why other.why
+is_same Equal (Skipped other) = false
+is_same (Skipped skipped) Equal = false
 
 -- The indexes of the samples that are this one, where the first of them has the given index.
-abbrev pub indexes_from : ℕ → Option Skipped → List (Option Skipped) → List ℕ
+abbrev pub indexes_from : ℕ → SampleWhy → List SampleWhy → List ℕ
 indexes_from index cause [] = []
 indexes_from index cause (sample ∷ samples) =
     if is_same sample cause then index ∷ indexes_from (suc index) cause samples
     else indexes_from (suc index) cause samples
 
 -- The indexes of the samples that are this one, from 0.
-abbrev pub indexes_where : Option Skipped → List (Option Skipped) → List ℕ
+abbrev pub indexes_where : SampleWhy → List SampleWhy → List ℕ
 indexes_where cause samples = indexes_from 0 cause samples
 
 -- The skip of the side for the cause.
-abbrev pub skip_of : Side → Skip → Option Skipped
-skip_of side why = Some (record { side = side; why = why })
+abbrev pub skip_of : Side → Skip → SampleWhy
+skip_of side why = Skipped (record { side = side; why = why })
 
 -- What may come of a sample, with the words that tell it, in the order of the lines.
-abbrev pub causes : List (Option Skipped × List ℕ)
+abbrev pub causes : List (SampleWhy × List ℕ)
 causes =
-    (None, codes "equal")
+    (Equal, codes "equal")
     ∷ (skip_of Pre Unmet, codes "unmet pre")
     ∷ (skip_of Pre Wide, codes "wide pre")
     ∷ (skip_of A NotEnded, codes "not-ended A")
@@ -65,12 +66,13 @@ causes =
 
 -- The words and the indexes, where there are any.
 abbrev pub index_line : List ℕ → List ℕ → List ℕ
-index_line words indexes = if length indexes == 0 then [] else words ++ codes " " ++ indexes_text indexes ++ codes "\n"
+index_line words [] = []
+index_line words (index ∷ indexes) = words ++ (codes " " ++ (indexes_text (index ∷ indexes) ++ codes "\n"))
 
 -- The line of the samples that have the cause.
-abbrev pub sample_line : List ℕ → Option Skipped → List (Option Skipped) → List ℕ
+abbrev pub sample_line : List ℕ → SampleWhy → List SampleWhy → List ℕ
 sample_line words cause samples = index_line words (indexes_where cause samples)
 
 -- The samples' lines, one for each cause that has an index.
-abbrev pub sample_lines : List (Option Skipped) → List ℕ
+abbrev pub sample_lines : List SampleWhy → List ℕ
 sample_lines samples = flat_map (λ row. sample_line row.1 row.0 samples) causes

@@ -6,10 +6,11 @@ ghost use Rattle.report.specs.Samples.{index_line, sample_line, sample_lines};
 use crate::indexes::indexes_text;
 use c_ast::Side::{self, A, B, Pre};
 use graph_run::Skip::{self, NotEnded, Unmet, Wide};
+use pool_core::SampleWhy;
 use std::alloc::{AllocError, Global};
 use trace_pair::Skipped;
 
-fn is_same(sample: &Option<Skipped>, other: &Option<Skipped>) -> bool
+fn is_same(sample: &SampleWhy, other: &SampleWhy) -> bool
     ensures { result ≡ is_same sample.now other.now }
 {
     sample == other
@@ -19,8 +20,8 @@ fn is_same(sample: &Option<Skipped>, other: &Option<Skipped>) -> bool
 /// bits.
 fn indexes_where(
     alloc: Global,
-    samples: &[Option<Skipped>],
-    cause: &Option<Skipped>,
+    samples: &[SampleWhy],
+    cause: &SampleWhy,
 ) -> Result<Vec<u32>, AllocError>
     ensures { IfOk result (λ indexes. indexes.items ≡ indexes_where cause.now samples.now) }
 {
@@ -36,10 +37,10 @@ fn indexes_where(
     Ok(indexes)
 }
 
-fn skip_of(side: Side, why: Skip) -> Option<Skipped>
+fn skip_of(side: Side, why: Skip) -> SampleWhy
     ensures { result ≡ skip_of side why }
 {
-    Some(Skipped { side, why })
+    SampleWhy::Skipped(Skipped { side, why })
 }
 
 fn index_line(alloc: Global, words: &str, indexes: &[u32]) -> Result<String, AllocError>
@@ -56,8 +57,8 @@ fn push_line(
     alloc: Global,
     text: &mut String,
     words: &str,
-    samples: &[Option<Skipped>],
-    cause: Option<Skipped>,
+    samples: &[SampleWhy],
+    cause: SampleWhy,
 ) -> Result<(), AllocError>
     ensures { OnOk result
         (string_bytes text.new ≡ string_bytes text.old ++ sample_line words.now cause samples.now) }
@@ -71,12 +72,12 @@ fn push_line(
 pub fn push_sample_lines(
     alloc: Global,
     text: &mut String,
-    samples: &[Option<Skipped>],
+    samples: &[SampleWhy],
 ) -> Result<(), AllocError>
     ensures { OnOk result
         (string_bytes text.new ≡ string_bytes text.old ++ sample_lines samples.now) }
 {
-    push_line(alloc, text, "equal", samples, None)?;
+    push_line(alloc, text, "equal", samples, SampleWhy::Equal)?;
     push_line(alloc, text, "unmet pre", samples, skip_of(Pre, Unmet))?;
     push_line(alloc, text, "wide pre", samples, skip_of(Pre, Wide))?;
     push_line(alloc, text, "not-ended A", samples, skip_of(A, NotEnded))?;

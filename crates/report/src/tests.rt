@@ -1,19 +1,20 @@
 //! The exact bytes.
 ghost use Rattle.std.specs.Prelude.{◌≢◌, IfOk, All};
+ghost use Rattle.trace_pair.specs.Pairs.{IsCauseOf};
 ghost use Rattle.report.specs.Faults.{IsKept};
 ghost use Rattle.report.specs.Samples.{IsKeptSample};
-ghost use Rattle.report.specs.Early.{IsKeptEarly};
 
-use crate::early::{Early, early_text};
 use crate::fault::{Fault, fault_text};
 use crate::indexes::indexes_text;
-use c_ast::Side::{A, B, Pre};
+use crate::samples::push_sample_lines;
+use crate::verdict::different_text;
+use c_ast::Side::{self, A, B, Pre};
 use c_ast::{Arity, Name};
 use c_check::CheckFault;
 use c_reader::ReadFault;
 use c_tokens::TokenFault;
-use graph_run::Skip::{NotEnded, Unmet, Wide};
-use sqlite_items::Items;
+use graph_run::Skip::{self, NotEnded, Unmet, Wide};
+use pool_core::SampleWhy::{self, Equal};
 use std::alloc::{AllocError, Global};
 use std::test::Fail;
 use trace_pair::Skipped;
@@ -149,41 +150,6 @@ fn faults_of_names(rt: HostRuntime) -> Result<(), Fail> {
     Ok(())
 }
 
-fn lines(alloc: Global, early: &Early) -> Result<String, AllocError>
-    requires { IsKeptEarly early.now }
-{
-    let bytes = early_text(alloc, early)?;
-    told(alloc, &bytes)
-}
-
-#[test]
-fn equivalent_functions(rt: HostRuntime) -> Result<(), Fail> {
-    assert_eq!(rt;
-        lines(rt.alloc(), &Early::Equivalent)?.as_str(),
-        "equivalent\n"
-    );
-    Ok(())
-}
-
-fn different(
-    alloc: Global,
-    index: u32,
-    input: &[i128],
-    first: i128,
-    second: i128,
-) -> Result<String, AllocError> {
-    let input = Items::from_slice(alloc, input)?;
-    lines(
-        alloc,
-        &Early::Different {
-            index,
-            input,
-            first,
-            second,
-        },
-    )
-}
-
 #[test]
 fn different_functions(rt: HostRuntime) -> Result<(), Fail> {
     let rows: [(u32, &[i128], i128, i128, &str); 3] = [
@@ -212,75 +178,69 @@ fn different_functions(rt: HostRuntime) -> Result<(), Fail> {
     ];
     for (index, input, first, second, text) in rows {
         assert_eq!(rt;
-            different(rt.alloc(), index, input, first, second)?.as_str(),
+            different_text(rt.alloc(), index, input, &first, &second)?.as_str(),
             text
         );
     }
     Ok(())
 }
 
+fn skipped(side: Side, why: Skip) -> SampleWhy
+    requires { IsCauseOf side why }
+    ensures { IsKeptSample result }
+{
+    SampleWhy::Skipped(Skipped { side, why })
+}
+
 /// A sample as a letter: `A` and `B` have not ended on that side, `a` and `b` are wide there, `P`
 /// does not meet the condition, `p` is wide in it, and others are equal.
-fn sample(letter: char) -> Option<Skipped>
+fn sample(letter: char) -> SampleWhy
     ensures { IsKeptSample result }
 {
     match letter {
-        'A' => Some(Skipped {
-            side: A,
-            why: NotEnded,
-        }),
-        'a' => Some(Skipped { side: A, why: Wide }),
-        'B' => Some(Skipped {
-            side: B,
-            why: NotEnded,
-        }),
-        'b' => Some(Skipped { side: B, why: Wide }),
-        'P' => Some(Skipped {
-            side: Pre,
-            why: Unmet,
-        }),
-        'p' => Some(Skipped {
-            side: Pre,
-            why: Wide,
-        }),
-        _ => None,
+        'A' => skipped(A, NotEnded),
+        'a' => skipped(A, Wide),
+        'B' => skipped(B, NotEnded),
+        'b' => skipped(B, Wide),
+        'P' => skipped(Pre, Unmet),
+        'p' => skipped(Pre, Wide),
+        _ => Equal,
     }
 }
 
-fn samples(alloc: Global, letters: &[char]) -> Result<Items<Option<Skipped>>, AllocError>
-    ensures { IfOk result (λ samples. All IsKeptSample samples) }
+fn samples(alloc: Global, letters: &[char]) -> Result<Vec<SampleWhy>, AllocError>
+    ensures { IfOk result (λ samples. All IsKeptSample samples.items) }
 {
-    let mut samples = Items::new(alloc);
+    let mut samples = Vec::new(alloc);
     for letter in letters {
         samples.push(sample(*letter))?;
     }
     Ok(samples)
 }
 
-fn unknown(alloc: Global, letters: &[char]) -> Result<String, AllocError> {
+fn lines(alloc: Global, letters: &[char]) -> Result<String, AllocError> {
     let samples = samples(alloc, letters)?;
-    lines(alloc, &Early::Unknown { samples })
+    let mut text = String::new(alloc);
+    push_sample_lines(alloc, &mut text, &samples)?;
+    Ok(text)
 }
 
 #[test]
-fn unknown_functions(rt: HostRuntime) -> Result<(), Fail> {
+fn samples_that_decide_nothing(rt: HostRuntime) -> Result<(), Fail> {
     let rows: [(&[char], &str); 4] = [
-        (&[], "unknown\n"),
+        (&[], ""),
         (
             &['P', 'b', 'p', '=', 'P'],
-            "unknown\nequal 3\nunmet pre 0 4\nwide pre 2\nwide B 1\n",
+            "equal 3\nunmet pre 0 4\nwide pre 2\nwide B 1\n",
         ),
-        (
-            &['=', '=', 'a', '=', 'a'],
-            "unknown\nequal 0-1 3\nwide A 2 4\n",
-        ),
+        (&['=', '=', 'a', '=', 'a'], "equal 0-1 3\nwide A 2 4\n"),
         (
             &['b', 'B', 'a', 'A', '=', 'b', 'B', 'a', 'a', '='],
-            "unknown\nequal 4 9\nnot-ended A 3\nwide A 2 7-8\nnot-ended B 1 6\nwide B 0 5\n",
+            "equal 4 9\nnot-ended A 3\nwide A 2 7-8\nnot-ended B 1 6\nwide B 0 5\n",
         ),
     ];
     for (letters, text) in rows {
-        assert_eq!(rt; unknown(rt.alloc(), letters)?.as_str(), text);
+        assert_eq!(rt; lines(rt.alloc(), letters)?.as_str(), text);
     }
     Ok(())
 }

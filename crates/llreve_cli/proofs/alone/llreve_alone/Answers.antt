@@ -1,10 +1,6 @@
-use Rattle.std.proofs.Common.{◌∙◌, subst, arith}
-use Rattle.llreve_cli.specs.Outcome.{Outcome}
-use Rattle.llreve_cli.specs.Change.{change}
-use Rattle.llreve_cli.specs.Tells.{IsTold}
-use Rattle.llreve_cli.proofs.Telling.{verdict_kept, refusal_kept, answered, outcome_told, status_within, equivalent_told}
+use Rattle.llreve_cli.proofs.Telling.{verdict_kept, refusal_kept, answered, status_within, equivalent_told}
 use Rattle.llreve_cli.proofs.Telling.{different_told, unknown_told, refused_told, unread_told, write_failed}
-use Rattle.llreve_cli.proofs.OneOutcome.{outcome_once, apart_once}
+use Rattle.llreve_cli.proofs.Telling.{exact_told, compared_told, apart_told, coupled_told}
 use Rattle.llreve_cli.proofs.alone.llreve_alone.Goals as goal
 
 pub tell-requires-clause-verdict : goal.tell-requires-clause-verdict
@@ -18,18 +14,6 @@ returns-clause-answer g c = (answered c.judge-judged.result c.judge-judged.ensur
 
 pub returns-clause-statuses : goal.returns-clause-statuses
 returns-clause-statuses g c = status_within (answered c.judge-judged.result c.judge-judged.ensures c.tell.ensures)
-
-pub returns-clause-exact : goal.returns-clause-exact
-returns-clause-exact g c told outcome leads no_read low =
-    let found = outcome_told (answered c.judge-judged.result c.judge-judged.ensures c.tell.ensures) (omega (arith, low)) in
-    let same = outcome_once _ found.0 outcome told found.1 leads (λ four. omega (arith, four, found.2.0, low)) no_read in
-    subst (λ (o : Outcome). IsTold o (change g.O.Sink c.args.out.now c.tell.new.out)
-    (change g.E.Sink c.args.err.now c.tell.new.err) c.tell.result) same found.2
-
-pub returns-clause-apart : goal.returns-clause-apart
-returns-clause-apart g c told different low =
-    let found = outcome_told (answered c.judge-judged.result c.judge-judged.ensures c.tell.ensures) (omega (arith, low)) in
-    found.2.0 ∙ apart_once _ found.0 told different found.1 (λ four. omega (arith, four, found.2.0, low))
 
 pub returns-clause-equivalent : goal.returns-clause-equivalent
 returns-clause-equivalent g c = equivalent_told (answered c.judge-judged.result c.judge-judged.ensures c.tell.ensures)
@@ -48,6 +32,18 @@ returns-clause-unread g c = unread_told (answered c.judge-judged.result c.judge-
 
 pub returns-clause-unwritten : goal.returns-clause-unwritten
 returns-clause-unwritten g c = write_failed (answered c.judge-judged.result c.judge-judged.ensures c.tell.ensures)
+
+pub returns-clause-exact : goal.returns-clause-exact
+returns-clause-exact g c = exact_told (answered c.judge-judged.result c.judge-judged.ensures c.tell.ensures)
+
+pub returns-clause-compared : goal.returns-clause-compared
+returns-clause-compared g c = compared_told (answered c.judge-judged.result c.judge-judged.ensures c.tell.ensures)
+
+pub returns-clause-apart : goal.returns-clause-apart
+returns-clause-apart g c = apart_told (answered c.judge-judged.result c.judge-judged.ensures c.tell.ensures)
+
+pub returns-clause-coupled : goal.returns-clause-coupled
+returns-clause-coupled g c = coupled_told (answered c.judge-judged.result c.judge-judged.ensures c.tell.ensures)
 
 pub returns-clause-memory : goal.returns-clause-memory
 returns-clause-memory g c = (answered c.judge-judged.result c.judge-judged.ensures c.tell.ensures).memory

@@ -1,8 +1,9 @@
-use Rattle.std.proofs.Common.{string_bytes, None}
+use Rattle.std.proofs.Common.{string_bytes}
 use Rattle.std.specs.Prelude.{codes}
 use Rattle.std.proofs.lemmas.Result.{IfOk-equal}
 use Rattle.c_ast.specs.declared.place.Side.TheVariants.{A, B, Pre}
 use Rattle.graph_run.specs.declared.skip.Skip.TheVariants.{NotEnded, Wide, Unmet}
+use Rattle.pool_core.specs.declared.verdict.SampleWhy.TheVariants.{Equal}
 use Rattle.report.specs.Samples.{sample_line, skip_of}
 use Rattle.report.proofs.Joined.{seven_behind}
 use Rattle.report.proofs.samples.push_sample_lines.Goals as goal
@@ -25,7 +26,7 @@ returns c =
       c.skip_of-5.ensures,
       c.skip_of-6.ensures,
     )
-    (seven_behind (string_bytes c.args.text.now) (sample_line (codes "equal") None samples)
+    (seven_behind (string_bytes c.args.text.now) (sample_line (codes "equal") Equal samples)
     (sample_line (codes "unmet pre") (skip_of Pre Unmet) samples)
     (sample_line (codes "wide pre") (skip_of Pre Wide) samples)
     (sample_line (codes "not-ended A") (skip_of A NotEnded) samples)
