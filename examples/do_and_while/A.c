@@ -1,0 +1,5 @@
+int f(int n) {
+    int i = 0;
+    do i++; while (i < n);
+    return i;
+}

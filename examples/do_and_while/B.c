@@ -1,0 +1,5 @@
+int f(int n) {
+    int i = 1;
+    while (i < n) i++;
+    return i;
+}

@@ -1,0 +1,7 @@
+extern int __mark(int);
+
+int f(void) {
+    int i = 0;
+    while (__mark(1) & (i < 64)) i = i + 1;
+    return i;
+}

@@ -1,0 +1,8 @@
+extern int __mark(int);
+
+int f(int n) {
+    int i = 0;
+    int s = 0;
+    for (int j = 0; __mark(7) & (j < n); j++) s += j;
+    return s;
+}

@@ -1,0 +1,7 @@
+int f(int n) {
+    int i = 0;
+    int s = 0;
+    while (i < n) i++;
+    for (int j = 0; j < n; j++) s += j;
+    return s;
+}
