@@ -5,6 +5,8 @@ use Rattle.report.proofs.Runs as run
 use Rattle.report.proofs.Told as told
 use Rattle.report.proofs.VerdictsFit as fit
 use Rattle.report.proofs.ItemsKept as kept
+use Rattle.report.specs.Determined.{TextsDetermineVerdicts}
+use Rattle.report.proofs.VerdictTexts as whole
 
 pub has_runs : HasRuns
 has_runs = run.are_runs
@@ -23,3 +25,6 @@ justified_verdicts_fit = fit.verdict_fits
 
 pub legal_histories_are_kept : LegalHistoriesAreKept
 legal_histories_are_kept = kept.items_kept
+
+pub texts_determine_verdicts : TextsDetermineVerdicts
+texts_determine_verdicts = whole.texts_determine

@@ -5,6 +5,15 @@ pub mod Runs
 pub mod Joined
 pub mod Told
 pub mod Scopes
+pub mod Reading
+pub mod Numbers
+pub mod Sums
+pub mod Labelling
+pub mod FamilyTexts
+pub mod IndexTexts
+pub mod SampleTexts
+pub mod ReasonTexts
+pub mod VerdictTexts
 pub mod NoMemory
 pub mod KeptLimits
 pub mod Widths

@@ -8,3 +8,4 @@ pub mod Fits
 pub mod Histories
 pub mod Laws
 pub mod Fitting
+pub mod Determined

@@ -33,5 +33,5 @@ pub use fault::{Fault, fault_text};
 pub use fitting::law_of_fitting;
 pub use history::history_text;
 pub use indexes::indexes_text;
-pub use law::{law_of_runs, law_of_samples};
+pub use law::{law_of_runs, law_of_samples, law_of_texts};
 pub use verdict::verdict_text;
