@@ -191,6 +191,7 @@ text_of_runs (x ∷ xs) = with_run_text x (runs xs)
 pub indexes : IsReadable (Each IsShort) indexes_text (Stops runs_on)
 indexes = record {
   read = λ x y s t a b c d e.
-      let o = runs_read (runs x) (runs y) s t (runs_short x a) (runs_short y b) c d (ap (λ z. z ++ s) (sym (text_of_runs x)) ∙ e ∙ ap (λ z. z ++ t) (text_of_runs y)) in
+      let o = runs_read (runs x) (runs y) s t (runs_short x a) (runs_short y b) c d (ap (λ z. z ++ s) (sym (text_of_runs x)) ∙ e
+      ∙ ap (λ z. z ++ t) (text_of_runs y)) in
       (same_runs x y o.0, o.1);
 }

@@ -67,7 +67,8 @@ same_bytes (b ∷ s) (c ∷ t) = eqb b c && same_bytes s t
 abbrev find_word : List ℕ → Word
 find_word t =
     cond (same_bytes t (codes "no-coupling")) WNone (cond (same_bytes t (codes "non-linear")) WLinear (cond (same_bytes t (codes "wide-form")) WForm
-    (cond (same_bytes t (codes "many-unknowns")) WUnknowns (cond (same_bytes t (codes "many-paths")) WPaths (cond (same_bytes t (codes "many-variables")) WVariables
+    (cond (same_bytes t (codes "many-unknowns")) WUnknowns (cond (same_bytes t (codes "many-paths")) WPaths (cond (same_bytes t
+    (codes "many-variables")) WVariables
     (cond (same_bytes t (codes "wide-row")) WRow WRows))))))
 
 abbrev in_word : ℕ → Bool
@@ -111,7 +112,8 @@ word_read = word in_word word_text find_word (λ x. passes (word_text x) (words_
 
 -- ---- places and nodes
 
-place_in : (x y : Place) (s t : List ℕ) → IsShortPlace x → IsShortPlace y → Stops is_digit s → Stops is_digit t → place_text x ++ s ≡ place_text y ++ t → (x ≡ y) × (s ≡ t)
+place_in : (x y : Place) (s t : List ℕ) → IsShortPlace x → IsShortPlace y → Stops is_digit s → Stops is_digit t
+    → place_text x ++ s ≡ place_text y ++ t → (x ≡ y) × (s ≡ t)
 place_in place.Entry place.Entry s t a b c d e = (refl, append_cancel_left (codes "entry") s t e)
 place_in place.Entry (place.Mark n) s t a b c d e = absurd (clash is_digit (decimal n ++ t) (codes "entry" ++ s) (number_begins n t b) refl (sym e))
 place_in place.Entry place.Exit s t a b c d e = absurd (differ (codes "entry") (codes "exit") s t refl e)
@@ -133,7 +135,8 @@ abbrev of_pair : Place × Place → Node
 of_pair p = record { 0 = p.0; 1 = p.1 }
 
 node_read : IsReadable IsShortNode node_text (Stops is_digit)
-node_read = through {A = Node} (λ (p : Place × Place). IsShortPlace p.0 × IsShortPlace p.1) (λ p. place_text p.0 ++ (codes " " ++ place_text p.1)) (Stops is_digit)
+node_read = through {A = Node} (λ (p : Place × Place). IsShortPlace p.0 × IsShortPlace p.1) (λ p. place_text p.0 ++ (codes " " ++ place_text p.1))
+    (Stops is_digit)
     (λ n. (n.0, n.1)) (λ x y e. ap of_pair e) pair_read
 
 -- ---- what stands behind the word
@@ -181,7 +184,8 @@ side_read = record { read = λ x y s t a b c d e. side_in x y s t e }
 
 place_part : IsReadable {A = Side × Place} (λ p. Unit {0} × IsShortPlace p.1) (λ p. place_line p.0 p.1) Anything
 place_part = behind (λ (b : Side). Unit {0}) side_word Anything (λ b. IsShortPlace) (λ b p. codes " " ++ (place_text p ++ codes "\n")) Anything side_read
-    (λ b h. past IsShortPlace (λ p. place_text p ++ codes "\n") Anything (codes " ") (closed IsShortPlace place_text (Stops is_digit) (codes "\n") (λ s. refl) place_read))
+    (λ b h. past IsShortPlace (λ p. place_text p ++ codes "\n") Anything (codes " ") (closed IsShortPlace place_text (Stops is_digit) (codes "\n")
+    (λ s. refl) place_read))
     (λ b p s h k c. tt)
 
 node_part : IsReadable IsShortNode (λ n. node_text n ++ codes "\n") Anything
@@ -227,7 +231,8 @@ kind (TheRows n left) = 3
 node_starts : (n : Node) (s : List ℕ) → (node_text n ++ codes "\n") ++ s ≡ place_text n.0 ++ (codes " " ++ (place_text n.1 ++ (codes "\n" ++ s)))
 node_starts n s = append_assoc (node_text n) (codes "\n") s ∙ append_assoc (place_text n.0) (codes " " ++ place_text n.1) (codes "\n" ++ s)
 
-rows_starts : (subject : Comparison) (n : ℕ) (left : Family) (s : List ℕ) → rows_lines subject n left ++ s ≡ decimal n ++ (codes "\n" ++ (family_text subject left ++ s))
+rows_starts : (subject : Comparison) (n : ℕ) (left : Family) (s : List ℕ) → rows_lines subject n left ++ s
+    ≡ decimal n ++ (codes "\n" ++ (family_text subject left ++ s))
 rows_starts subject n left s = append_assoc (decimal n) (codes "\n" ++ family_text subject left) s
 
 part_kind : (subject : Comparison) (x : Part) (s : List ℕ) → FitsPart subject x → kind_of (part_text subject x ++ s) ≡ kind x
@@ -242,18 +247,23 @@ part_kind subject (TheRows n left) s h =
     ap (λ z. kind_of (codes " " ++ z)) (rows_starts subject n left s)
     ∙ digit_kind (decimal n ++ (codes "\n" ++ (family_text subject left ++ s))) (number_begins n (codes "\n" ++ (family_text subject left ++ s)) h.0)
 
-same_kind : (subject : Comparison) (x y : Part) (s t : List ℕ) → FitsPart subject x → FitsPart subject y → part_text subject x ++ s ≡ part_text subject y ++ t → kind x ≡ kind y
+same_kind : (subject : Comparison) (x y : Part) (s t : List ℕ) → FitsPart subject x → FitsPart subject y
+    → part_text subject x ++ s ≡ part_text subject y ++ t → kind x ≡ kind y
 same_kind subject x y s t a b e = sym (part_kind subject x s a) ∙ ap kind_of e ∙ part_kind subject y t b
 
 node_rows : (p : Place) (n : ℕ) (s t : List ℕ) → IsShortPlace p → IsShort n → place_text p ++ (codes " " ++ s) ≡ decimal n ++ (codes "\n" ++ t) → ⊥
-node_rows place.Entry n s t h k e = clash is_digit (decimal n ++ (codes "\n" ++ t)) (codes "entry" ++ (codes " " ++ s)) (number_begins n (codes "\n" ++ t) k) refl (sym e)
-node_rows (place.Mark m) n s t h k e = let o = number.read m n (codes " " ++ s) (codes "\n" ++ t) h k refl refl e in differ (codes " ") (codes "\n") s t refl o.1
-node_rows place.Exit n s t h k e = clash is_digit (decimal n ++ (codes "\n" ++ t)) (codes "exit" ++ (codes " " ++ s)) (number_begins n (codes "\n" ++ t) k) refl (sym e)
+node_rows place.Entry n s t h k e = clash is_digit (decimal n ++ (codes "\n" ++ t)) (codes "entry" ++ (codes " " ++ s)) (number_begins n
+    (codes "\n" ++ t) k) refl (sym e)
+node_rows (place.Mark m) n s t h k e = let o = number.read m n (codes " " ++ s) (codes "\n" ++ t) h k refl refl e in differ (codes " ")
+    (codes "\n") s t refl o.1
+node_rows place.Exit n s t h k e = clash is_digit (decimal n ++ (codes "\n" ++ t)) (codes "exit" ++ (codes " " ++ s)) (number_begins n
+    (codes "\n" ++ t) k) refl (sym e)
 
 node_rows_on : (subject : Comparison) (n : Node) (i : ℕ) (left : Family) (s t : List ℕ) → IsShortNode n → IsShort i
     → codes " " ++ ((node_text n ++ codes "\n") ++ s) ≡ codes " " ++ (rows_lines subject i left ++ t) → ⊥
 node_rows_on subject n i left s t h k e =
-    let f : (node_text n ++ codes "\n") ++ s ≡ rows_lines subject i left ++ t = append_cancel_left (codes " ") ((node_text n ++ codes "\n") ++ s) (rows_lines subject i left ++ t) e in
+    let f : (node_text n ++ codes "\n") ++ s ≡ rows_lines subject i left ++ t = append_cancel_left (codes " ") ((node_text n ++ codes "\n") ++ s)
+    (rows_lines subject i left ++ t) e in
     node_rows n.0 i (place_text n.1 ++ (codes "\n" ++ s)) (family_text subject left ++ t) h.0 k (sym (node_starts n s) ∙ f ∙ rows_starts subject i left t)
 
 part_in : (subject : Comparison) → ReadsFamilies subject → (x y : Part) (s t : List ℕ) → FitsPart subject x → FitsPart subject y → IsNext s → IsNext t
@@ -302,7 +312,8 @@ part_stops u (TheRows n l) s = refl
 
 worded : (subject : Comparison) → ReadsFamilies subject
     → IsReadable {A = Word × Part} (λ p. Unit {0} × FitsPart subject p.1) (λ p. word_text p.0 ++ part_text subject p.1) IsNext
-worded u h = behind (λ (x : Word). Unit {0}) word_text (Stops in_word) (λ x. FitsPart u) (λ x. part_text u) IsNext word_read (λ x k. part u h) (λ x y s a b c. part_stops u y s)
+worded u h = behind (λ (x : Word). Unit {0}) word_text (Stops in_word) (λ x. FitsPart u) (λ x. part_text u) IsNext word_read (λ x k. part u h)
+    (λ x y s a b c. part_stops u y s)
 
 -- ---- reasons
 

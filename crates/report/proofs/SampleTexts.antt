@@ -30,7 +30,8 @@ line_starts : (w : List ℕ) (x : ℕ) (xs s : List ℕ)
     → index_line w (x ∷ xs) ++ s ≡ w ++ ((codes " " ++ (indexes_text (x ∷ xs) ++ codes "\n")) ++ s)
 line_starts w x xs s = append_assoc w (codes " " ++ (indexes_text (x ∷ xs) ++ codes "\n")) s
 
-line_read : (w xs ys s t : List ℕ) → Each IsShort xs → Each IsShort ys → Avoids w s → Avoids w t → index_line w xs ++ s ≡ index_line w ys ++ t → (xs ≡ ys) × (s ≡ t)
+line_read : (w xs ys s t : List ℕ) → Each IsShort xs → Each IsShort ys → Avoids w s → Avoids w t → index_line w xs ++ s ≡ index_line w ys ++ t
+    → (xs ≡ ys) × (s ≡ t)
 line_read w [] [] s t a b c d e = (refl, e)
 line_read w [] (y ∷ ys) s t a b c d e = absurd (c.by ((codes " " ++ (indexes_text (y ∷ ys) ++ codes "\n")) ++ t) (e ∙ line_starts w y ys t))
 line_read w (x ∷ xs) [] s t a b c d e = absurd (d.by ((codes " " ++ (indexes_text (x ∷ xs) ++ codes "\n")) ++ s) (sym e ∙ line_starts w x xs s))
@@ -76,7 +77,8 @@ places_short k i (x ∷ xs) h = on (is_same x k) (places_short k (suc i) xs (ome
     on true r = (omega (arith, h), r)
     on false r = r
 
-lines_read : (rows : List Row) (xs ys : List SampleWhy) (s t : List ℕ) → length xs < 10 ^ 64 → length ys < 10 ^ 64 → AreUnlike rows → AvoidsAll rows s → AvoidsAll rows t
+lines_read : (rows : List Row) (xs ys : List SampleWhy) (s t : List ℕ) → length xs < 10 ^ 64 → length ys < 10 ^ 64 → AreUnlike rows
+    → AvoidsAll rows s → AvoidsAll rows t
     → lines_of xs rows ++ s ≡ lines_of ys rows ++ t → Each (λ (r : Row). indexes_where r.0 xs ≡ indexes_where r.0 ys) rows × (s ≡ t)
 lines_read [] xs ys s t a b h c d e = (tt, e)
 lines_read (r ∷ rs) xs ys s t a b h c d e =
@@ -197,7 +199,8 @@ same_samples i (x ∷ xs) (y ∷ ys) a b h =
 abbrev SameWhere : List SampleWhy → List SampleWhy → Type 0
 SameWhere xs ys = Each (λ (r : Row). indexes_where r.0 xs ≡ indexes_where r.0 ys) causes
 
-same_skip : (xs ys : List SampleWhy) → SameWhere xs ys → (side : Side) (why : Skip) → IsCauseOf side why → indexes_where (skip_of side why) xs ≡ indexes_where (skip_of side why) ys
+same_skip : (xs ys : List SampleWhy) → SameWhere xs ys → (side : Side) (why : Skip) → IsCauseOf side why
+    → indexes_where (skip_of side why) xs ≡ indexes_where (skip_of side why) ys
 same_skip xs ys h A NotEnded k = h.1.1.1.0
 same_skip xs ys h A Wide k = h.1.1.1.1.0
 same_skip xs ys h A Unmet k = absurd k
@@ -224,13 +227,52 @@ aligned_avoids : (v s : List ℕ) → unlike (codes "alignment ") v ≡ true →
 aligned_avoids v s h a = record { by = λ t e. differ (codes "alignment ") v a.more t h (sym a.starts ∙ e) }
 
 aligned_all : (s : List ℕ) → Aligned s → AvoidsAll causes s
-aligned_all s a = (aligned_avoids (codes "equal") s refl a, (aligned_avoids (codes "unmet pre") s refl a, (aligned_avoids (codes "wide pre") s refl a, (aligned_avoids (codes "not-ended A") s refl a, (aligned_avoids (codes "wide A") s refl a, (aligned_avoids (codes "not-ended B") s refl a, (aligned_avoids (codes "wide B") s refl a, tt)))))))
+aligned_all s a = (
+  aligned_avoids (codes "equal") s refl a,
+  (
+    aligned_avoids (codes "unmet pre") s refl a,
+    (
+      aligned_avoids
+          (codes "wide pre") s refl a,
+      (
+        aligned_avoids (codes "not-ended A") s refl a,
+        (
+          aligned_avoids (codes "wide A") s refl a,
+          (
+            aligned_avoids
+                (codes "not-ended B") s refl a,
+            (aligned_avoids (codes "wide B") s refl a, tt),
+          ),
+        ),
+      ),
+    ),
+  ),
+)
 
 unlike_causes : AreUnlike causes
-unlike_causes = ((refl, (refl, (refl, (refl, (refl, (refl, tt)))))), ((refl, (refl, (refl, (refl, (refl, tt))))), ((refl, (refl, (refl, (refl, tt)))), ((refl, (refl, (refl, tt))), ((refl, (refl, tt)), ((refl, tt), (tt, tt)))))))
+unlike_causes = (
+  (refl, (refl, (refl, (refl, (refl, (refl, tt)))))),
+  (
+    (refl, (refl, (refl, (refl, (refl, tt))))),
+    (
+      (
+        refl,
+        (
+          refl,
+          (
+            refl,
+            (refl, tt),
+          ),
+        ),
+      ),
+      ((refl, (refl, (refl, tt))), ((refl, (refl, tt)), ((refl, tt), (tt, tt)))),
+    ),
+  ),
+)
 
 -- The lines of the samples, followed by the line of an alignment, determine the samples and what follows.
-pub samples_read : (xs ys : List SampleWhy) (s t : List ℕ) → All IsKeptSample xs → All IsKeptSample ys → IsShort (length xs) → IsShort (length ys) → Aligned s → Aligned t
+pub samples_read : (xs ys : List SampleWhy) (s t : List ℕ) → All IsKeptSample xs → All IsKeptSample ys → IsShort (length xs) → IsShort (length ys)
+    → Aligned s → Aligned t
     → sample_lines xs ++ s ≡ sample_lines ys ++ t → (xs ≡ ys) × (s ≡ t)
 samples_read xs ys s t f g a b c d e =
     let o = lines_read causes xs ys s t a b unlike_causes (aligned_all s c) (aligned_all t d) e in

@@ -46,7 +46,8 @@ finds : (stmts : Statements) (scope : Scope) (work : Work) (mark : ℕ) → Find
 finds Nil scope work mark = λ after none. none
 finds (Set x e others) scope work mark = finds_set _ x scope (set_before mark others) (finds others (x ∷ scope) work mark)
 finds (If e a b others) scope work mark =
-    finds_or _ _ scope (set_before mark a) _ (finds a scope _ mark) (finds_or _ _ scope (set_before mark b) _ (finds b scope _ mark) (finds others scope work mark))
+    finds_or _ _ scope (set_before mark a) _ (finds a scope _ mark) (finds_or _ _ scope (set_before mark b) _ (finds b scope _ mark)
+    (finds others scope work mark))
 finds (Loop own e body tail first others) scope work mark =
     finds_or _ _ scope (none_before (is_mark own mark)) _ (finds_loop own mark _ scope refl)
     (finds_or _ _ scope (set_before mark body) _ (finds body scope _ mark)

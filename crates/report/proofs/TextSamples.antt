@@ -1,6 +1,6 @@
 -- Texts of small verdicts and histories, by computing.
 use Rattle.std.proofs.Common.{◌≡◌, ℕ, List, [], ◌∷◌, None, pos, negsuc, refl}
-use Rattle.std.specs.Prelude.{codes}
+use Rattle.std.specs.Prelude.{◌++◌, codes}
 use Rattle.std.specs.Fmt.{digits}
 use Rattle.c_ast.specs.declared.place.Place.TheVariants as place
 use Rattle.c_ast.specs.declared.place.Side.TheVariants.{A, B, Pre}
@@ -77,7 +77,8 @@ left = record { nodes = (node place.Exit (place.Mark 12), []) ∷ [] }
 unknown : verdict_text subject (Unknown (Equal ∷ skip_of A Wide ∷ Equal ∷ skip_of B NotEnded ∷ [])
     (NoCoupling ∷ Product (product.AtPlace A (place.Mark 3) path.NonLinear) ∷ Product (product.AtPre path.ManyUnknowns)
     ∷ Product (product.ManyVariables (node (place.Mark 3) place.Exit)) ∷ AtObligation 7 left row.WideRow ∷ []))
-    ≡ codes "unknown\nequal 0 2\nwide A 1\nnot-ended B 3\nalignment 1 no-coupling\nalignment 2 non-linear A 3\nalignment 3 many-unknowns pre\nalignment 4 many-variables 3 exit\nalignment 5 wide-row 7\nnode exit 12\n"
+    ≡ codes "unknown\nequal 0 2\nwide A 1\nnot-ended B 3\nalignment 1 no-coupling\nalignment 2 non-linear A 3\n"
+    ++ codes "alignment 3 many-unknowns pre\nalignment 4 many-variables 3 exit\nalignment 5 wide-row 7\nnode exit 12\n"
 unfolding digits
 unknown = refl
 

@@ -34,7 +34,8 @@ alignment_short : (n : ℕ) → IsAlignment n → IsShort n
 alignment_short n h = let m = h.most in omega (arith, m)
 
 module _ (subject : Comparison) (h : ReadsFamilies subject) where
-  pairs_part : IsReadable {A = List ℕ × Family} (λ p. Each IsShort p.0 × IsToldFamily subject p.1) (λ p. indexes_text p.0 ++ (codes "\n" ++ family_text subject p.1)) IsNext
+  pairs_part : IsReadable {A = List ℕ × Family} (λ p. Each IsShort p.0 × IsToldFamily subject p.1) (λ p. indexes_text p.0 ++
+      (codes "\n" ++ family_text subject p.1)) IsNext
   pairs_part = behind (Each IsShort) indexes_text (Stops runs_on) (λ xs. IsToldFamily subject) (λ xs f. codes "\n" ++ family_text subject f) IsNext indexes
       (λ xs k. past (IsToldFamily subject) (family_text subject) IsNext (codes "\n") h) (λ xs f s a b c. refl)
 
@@ -42,7 +43,8 @@ module _ (subject : Comparison) (h : ReadsFamilies subject) where
       (λ p. decimal p.0 ++ (codes "\npairs " ++ (indexes_text p.1.0 ++ (codes "\n" ++ family_text subject p.1.1)))) IsNext
   equivalent = behind IsShort decimal (Stops is_digit) (λ k (p : List ℕ × Family). Each IsShort p.0 × IsToldFamily subject p.1)
       (λ k p. codes "\npairs " ++ (indexes_text p.0 ++ (codes "\n" ++ family_text subject p.1))) IsNext number
-      (λ k l. past (λ (p : List ℕ × Family). Each IsShort p.0 × IsToldFamily subject p.1) (λ p. indexes_text p.0 ++ (codes "\n" ++ family_text subject p.1)) IsNext
+      (λ k l. past (λ (p : List ℕ × Family). Each IsShort p.0 × IsToldFamily subject p.1) (λ p. indexes_text p.0 ++
+      (codes "\n" ++ family_text subject p.1)) IsNext
       (codes "\npairs ") pairs_part) (λ k p s a b c. refl)
 
 -- ---- different
@@ -72,7 +74,8 @@ input_read = many IsShortSigned value_text (Stops is_digit) (Stops value_on) val
     (record { ends = value_ends; goes = λ x s h. refl; apart = λ x s t a b e. value_clash x s t b e })
 
 last : IsReadable IsShortSigned (λ z. codes "\nB returns " ++ (signed_decimal z ++ codes "\n")) Anything
-last = past IsShortSigned (λ z. signed_decimal z ++ codes "\n") Anything (codes "\nB returns ") (closed IsShortSigned signed_decimal (Stops is_digit) (codes "\n") (λ s. refl) signed)
+last = past IsShortSigned (λ z. signed_decimal z ++ codes "\n") Anything (codes "\nB returns ") (closed IsShortSigned signed_decimal
+    (Stops is_digit) (codes "\n") (λ s. refl) signed)
 
 abbrev results_text : ℤ × ℤ → List ℕ
 results_text p = signed_decimal p.0 ++ (codes "\nB returns " ++ (signed_decimal p.1 ++ codes "\n"))
@@ -81,23 +84,28 @@ abbrev ShortResults : ℤ × ℤ → Type 0
 ShortResults p = IsShortSigned p.0 × IsShortSigned p.1
 
 results : IsReadable {A = ℤ × ℤ} ShortResults results_text Anything
-results = behind IsShortSigned signed_decimal (Stops is_digit) (λ z. IsShortSigned) (λ z y. codes "\nB returns " ++ (signed_decimal y ++ codes "\n")) Anything signed
+results = behind IsShortSigned signed_decimal (Stops is_digit) (λ z. IsShortSigned) (λ z y. codes "\nB returns " ++
+    (signed_decimal y ++ codes "\n")) Anything signed
     (λ z h. last) (λ z y s a b c. refl)
 
 abbrev input_lines : List ℤ × (ℤ × ℤ) → List ℕ
 input_lines p = flat_map value_text p.0 ++ (codes "\nA returns " ++ results_text p.1)
 
 input_part : IsReadable {A = List ℤ × (ℤ × ℤ)} (λ p. Each IsShortSigned p.0 × ShortResults p.1) input_lines Anything
-input_part = behind (Each IsShortSigned) (flat_map value_text) (Stops value_on) (λ xs. ShortResults) (λ xs p. codes "\nA returns " ++ results_text p) Anything input_read
+input_part = behind (Each IsShortSigned) (flat_map value_text) (Stops value_on) (λ xs. ShortResults)
+    (λ xs p. codes "\nA returns " ++ results_text p) Anything input_read
     (λ xs h. past {A = ℤ × ℤ} ShortResults results_text Anything (codes "\nA returns ") results) (λ xs p s a b c. refl)
 
-different : IsReadable {A = ℕ × (List ℤ × (ℤ × ℤ))} (λ p. IsShort p.0 × (Each IsShortSigned p.1.0 × ShortResults p.1.1)) (λ p. decimal p.0 ++ (codes "\ninput" ++ input_lines p.1)) Anything
-different = behind IsShort decimal (Stops is_digit) (λ i (p : List ℤ × (ℤ × ℤ)). Each IsShortSigned p.0 × ShortResults p.1) (λ i p. codes "\ninput" ++ input_lines p) Anything number
+different : IsReadable {A = ℕ × (List ℤ × (ℤ × ℤ))} (λ p. IsShort p.0 × (Each IsShortSigned p.1.0 × ShortResults p.1.1)) (λ p. decimal p.0 ++
+    (codes "\ninput" ++ input_lines p.1)) Anything
+different = behind IsShort decimal (Stops is_digit) (λ i (p : List ℤ × (ℤ × ℤ)). Each IsShortSigned p.0 × ShortResults p.1)
+    (λ i p. codes "\ninput" ++ input_lines p) Anything number
     (λ i h. past (λ (p : List ℤ × (ℤ × ℤ)). Each IsShortSigned p.0 × ShortResults p.1) input_lines Anything (codes "\ninput") input_part) (λ i p s a b c. refl)
 
 -- ---- unknown
 
-reason_starts : (u : Comparison) (k : ℕ) (x : Why) (r : List ℕ) → reason_text u k x ++ r ≡ codes "alignment " ++ (decimal k ++ (codes " " ++ (why_text u x ++ r)))
+reason_starts : (u : Comparison) (k : ℕ) (x : Why) (r : List ℕ) → reason_text u k x ++ r ≡ codes "alignment " ++ (decimal k ++ (codes " " ++
+    (why_text u x ++ r)))
 reason_starts u k x r = ap (λ z. codes "alignment " ++ z) (append_assoc (decimal k) (codes " " ++ why_text u x) r)
 
 reasons_next : (u : Comparison) (k : ℕ) (xs : List Why) → IsNext (reasons_text u k xs)
@@ -106,9 +114,14 @@ reasons_next u k (x ∷ xs) = refl
 
 aligned : (u : Comparison) (k : ℕ) (xs : List Why) → length xs ≡ 12 → Aligned (reasons_text u k xs)
 aligned u k [] e = cc
-aligned u k (x ∷ xs) e = record { more = decimal k ++ (codes " " ++ (why_text u x ++ reasons_text u (suc k) xs)); starts = reason_starts u k x (reasons_text u (suc k) xs) }
+aligned u k (x ∷ xs) e = record {
+  more = decimal k ++ (codes " " ++ (why_text u x ++ reasons_text u (suc k) xs));
+  starts = reason_starts u k x
+      (reasons_text u (suc k) xs);
+}
 
-reasons_read : (u : Comparison) → ReadsFamilies u → (k : ℕ) (xs ys : List Why) → length xs ≡ length ys → All (FitsWhy u) xs → All (FitsWhy u) ys → All IsShortWhy xs
+reasons_read : (u : Comparison) → ReadsFamilies u → (k : ℕ) (xs ys : List Why) → length xs ≡ length ys → All (FitsWhy u) xs → All (FitsWhy u) ys
+    → All IsShortWhy xs
     → All IsShortWhy ys → reasons_text u k xs ≡ reasons_text u k ys → xs ≡ ys
 reasons_read u h k [] [] n a b c d e = refl
 reasons_read u h k [] (y ∷ ys) n a b c d e = cc
@@ -123,7 +136,8 @@ reasons_read u h k (x ∷ xs) (y ∷ ys) n a b c d e =
     let o = (why u h).read x y r q (record { fits = All-head (FitsWhy u) x xs a; short = All-head IsShortWhy x xs c })
     (record { fits = All-head (FitsWhy u) y ys b; short = All-head IsShortWhy y ys d }) (reasons_next u (suc k) xs) (reasons_next u (suc k) ys) i in
     let m : length xs ≡ length ys = omega (arith, n) in
-    let p = reasons_read u h (suc k) xs ys m (All-tail (FitsWhy u) x xs a) (All-tail (FitsWhy u) y ys b) (All-tail IsShortWhy x xs c) (All-tail IsShortWhy y ys d) o.1 in
+    let p = reasons_read u h (suc k) xs ys m (All-tail (FitsWhy u) x xs a) (All-tail (FitsWhy u) y ys b) (All-tail IsShortWhy x xs c)
+    (All-tail IsShortWhy y ys d) o.1 in
     rw (o.0, p) refl
 
 -- ---- verdicts
@@ -132,15 +146,23 @@ verdict_read : (u : Comparison) → ReadsFamilies u → (x y : Verdict) → Fits
     → verdict_text u x ++ [] ≡ verdict_text u y ++ [] → verdict_text u x ≡ verdict_text u y → TellTheSame x y
 verdict_read u h (Equivalent k xs) (Equivalent l ys) f g a b e w =
     let o = (past {A = ℕ × (List ℕ × Family)} (λ p. IsShort p.0 × (Each IsShort p.1.0 × IsToldFamily u p.1.1))
-    (λ p. decimal p.0 ++ (codes "\npairs " ++ (indexes_text p.1.0 ++ (codes "\n" ++ family_text u p.1.1)))) IsNext (codes "equivalent\nalignment ") (equivalent u h)).read
+    (λ p. decimal p.0 ++ (codes "\npairs " ++ (indexes_text p.1.0 ++ (codes "\n" ++ family_text u p.1.1)))) IsNext (codes "equivalent\nalignment ")
+    (equivalent u h)).read
     (k.alignment, (xs, k.family)) (l.alignment, (ys, l.family)) [] []
-    (alignment_short k.alignment f.named, (all_each IsShort xs a.0, (f.family, a.1))) (alignment_short l.alignment g.named, (all_each IsShort ys b.0, (g.family, b.1))) tt tt e in
+    (alignment_short k.alignment f.named, (all_each IsShort xs a.0, (f.family, a.1))) (
+      alignment_short l.alignment g.named,
+      (all_each IsShort ys b.0, (g.family, b.1)),
+    ) tt tt e in
     (ap (λ (p : ℕ × (List ℕ × Family)). p.0) o.0, ap (λ (p : ℕ × (List ℕ × Family)). p.1.0) o.0, ap (λ (p : ℕ × (List ℕ × Family)). p.1.1) o.0)
-verdict_read u h (Equivalent k xs) (Different i x m n) f g a b e w = absurd (clash (λ c. eqb c 101) (verdict_text u (Equivalent k xs)) (verdict_text u (Different i x m n)) refl refl w)
-verdict_read u h (Equivalent k xs) (Unknown ss ys) f g a b e w = absurd (clash (λ c. eqb c 101) (verdict_text u (Equivalent k xs)) (verdict_text u (Unknown ss ys)) refl refl w)
-verdict_read u h (Different i x m n) (Equivalent l ys) f g a b e w = absurd (clash (λ c. eqb c 100) (verdict_text u (Different i x m n)) (verdict_text u (Equivalent l ys)) refl refl w)
+verdict_read u h (Equivalent k xs) (Different i x m n) f g a b e w = absurd (clash (λ c. eqb c 101) (verdict_text u (Equivalent k xs))
+    (verdict_text u (Different i x m n)) refl refl w)
+verdict_read u h (Equivalent k xs) (Unknown ss ys) f g a b e w = absurd (clash (λ c. eqb c 101) (verdict_text u (Equivalent k xs)) (verdict_text u
+    (Unknown ss ys)) refl refl w)
+verdict_read u h (Different i x m n) (Equivalent l ys) f g a b e w = absurd (clash (λ c. eqb c 100) (verdict_text u (Different i x m n))
+    (verdict_text u (Equivalent l ys)) refl refl w)
 verdict_read u h (Different i x m n) (Different j y p q) f g a b e w =
-    let o = (past {A = ℕ × (List ℤ × (ℤ × ℤ))} (λ p. IsShort p.0 × (Each IsShortSigned p.1.0 × ShortResults p.1.1)) (λ p. decimal p.0 ++ (codes "\ninput" ++ input_lines p.1)) Anything
+    let o = (past {A = ℕ × (List ℤ × (ℤ × ℤ))} (λ p. IsShort p.0 × (Each IsShortSigned p.1.0 × ShortResults p.1.1)) (λ p. decimal p.0 ++
+    (codes "\ninput" ++ input_lines p.1)) Anything
     (codes "different\nsample ") different).read (i, (x, (m, n))) (j, (y, (p, q))) [] []
     (a.0, (all_each IsShortSigned x a.1, (a.2, a.3))) (b.0, (all_each IsShortSigned y b.1, (b.2, b.3))) tt tt e in (
       ap (λ (p : ℕ × (List ℤ × (ℤ × ℤ))). p.0) o.0,
@@ -148,12 +170,16 @@ verdict_read u h (Different i x m n) (Different j y p q) f g a b e w =
       ap (λ (p : ℕ × (List ℤ × (ℤ × ℤ))). p.1.1.0) o.0,
       ap (λ (p : ℕ × (List ℤ × (ℤ × ℤ))). p.1.1.1) o.0,
     )
-verdict_read u h (Different i x m n) (Unknown ss ys) f g a b e w = absurd (clash (λ c. eqb c 100) (verdict_text u (Different i x m n)) (verdict_text u (Unknown ss ys)) refl refl w)
-verdict_read u h (Unknown rs xs) (Equivalent l ys) f g a b e w = absurd (clash (λ c. eqb c 117) (verdict_text u (Unknown rs xs)) (verdict_text u (Equivalent l ys)) refl refl w)
-verdict_read u h (Unknown rs xs) (Different j y p q) f g a b e w = absurd (clash (λ c. eqb c 117) (verdict_text u (Unknown rs xs)) (verdict_text u (Different j y p q)) refl refl w)
+verdict_read u h (Different i x m n) (Unknown ss ys) f g a b e w = absurd (clash (λ c. eqb c 100) (verdict_text u (Different i x m n))
+    (verdict_text u (Unknown ss ys)) refl refl w)
+verdict_read u h (Unknown rs xs) (Equivalent l ys) f g a b e w = absurd (clash (λ c. eqb c 117) (verdict_text u (Unknown rs xs)) (verdict_text u
+    (Equivalent l ys)) refl refl w)
+verdict_read u h (Unknown rs xs) (Different j y p q) f g a b e w = absurd (clash (λ c. eqb c 117) (verdict_text u (Unknown rs xs)) (verdict_text u
+    (Different j y p q)) refl refl w)
 verdict_read u h (Unknown rs xs) (Unknown ss ys) f g a b e w =
     let v = append_cancel_left (codes "unknown\n") (sample_lines rs ++ reasons_text u 1 xs) (sample_lines ss ++ reasons_text u 1 ys) w in
-    let o = samples_read rs ss (reasons_text u 1 xs) (reasons_text u 1 ys) f.samples_kept g.samples_kept a.0 b.0 (aligned u 1 xs f.twelve) (aligned u 1 ys g.twelve) v in
+    let o = samples_read rs ss (reasons_text u 1 xs) (reasons_text u 1 ys) f.samples_kept g.samples_kept a.0 b.0 (aligned u 1 xs f.twelve)
+    (aligned u 1 ys g.twelve) v in
     (o.0, reasons_read u h 1 xs ys (f.twelve ∙ sym g.twelve) f.reasons g.reasons a.1 b.1 o.1)
 
 -- Texts determine verdicts, if the text of a family determines it and what stands behind it.
