@@ -19,10 +19,10 @@ use re_base::{Files, Sink};
 use std::alloc::Global;
 
 /// Compares the functions of the two files that `words` name on the inputs that meet the condition
-/// of `--pre`, all where none is given; writes the verdict, behind its history where `--history` asks
-/// for that, and answers the status: 0 equivalent, 1 different, 2 unknown, 3 refused words or input,
-/// 4 a file could not be read, 5 a write failed, 6 want of memory. `words` leave out the program's
-/// name.
+/// of `--pre`, all where none is given; writes the verdict, behind its history where `--history`
+/// asks for that, and answers the status: 0 equivalent, 1 different, 2 unknown, 3 refused words or
+/// input, 4 a file could not be read, 5 a write failed, 6 want of memory. `words` leave out the
+/// program's name.
 pub fn llreve_alone<F: Files, O: Sink, E: Sink>(
     alloc: Global,
     words: &[String],
@@ -71,15 +71,15 @@ pub fn llreve_alone<F: Files, O: Sink, E: Sink>(
     ensures memory { result ≡ 6 → GetsNothing (change O.Sink out.old out.new)
         × GetsNothing (change E.Sink err.old err.new) }
 
-    // Where both texts are told, a refusal that they and the words lead to is what is told, unless a
-    // file could not be read, a write failed or memory ran out.
+    // Where both texts are told, a refusal that they and the words lead to is what is told, unless
+    // a file could not be read, a write failed or memory ran out.
     ensures exact { let asked = call F.Files words.now files.old files.new in AreTold asked
         → (why : Fault) → Leads asked (Refused why) → status_of (Refused why) ≢ 4 → result < 4
         → IsTold (Refused why) (change O.Sink out.old out.new) (change E.Sink err.old err.new)
         result }
 
-    // Where they can be compared, nothing is refused: unless a file could not be read, a write failed
-    // or memory ran out there is a verdict.
+    // Where they can be compared, nothing is refused: unless a file could not be read, a write
+    // failed or memory ran out there is a verdict.
     ensures compared { let asked = call F.Files words.now files.old files.new in
         AreTold asked → AreComparable asked → result ≢ 3 }
 
@@ -87,8 +87,8 @@ pub fn llreve_alone<F: Files, O: Sink, E: Sink>(
     ensures apart { let asked = call F.Files words.now files.old files.new in
         AreTold asked → SampleDiffers asked → result < 4 → result ≡ 1 }
 
-    // That they are equivalent comes wherever candidates of all pairs couple them, if no limit of an
-    // obligation hides it.
+    // That they are equivalent comes wherever candidates of all pairs couple them, if no limit of
+    // an obligation hides it.
     ensures coupled { let asked = call F.Files words.now files.old files.new in
         AreTold asked → (has : HasCoupling asked) → result < 4
         → (result ≡ 0) ⊎ ((result ≡ 2) × (hides : HidesCoupling has)

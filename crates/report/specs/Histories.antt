@@ -71,7 +71,8 @@ worker_of (item.Posted worker verdict) = worker
 -- The line of the item at this position.
 abbrev pub item_line : ℕ → Item → List ℕ
 item_line position item =
-    decimal position ++ (codes " worker " ++ (decimal (worker_of item) ++ (codes " " ++ (item_text item ++ codes "\n"))))
+    decimal position ++ (codes " worker " ++ (decimal (worker_of item)
+    ++ (codes " " ++ (item_text item ++ codes "\n"))))
 
 -- The lines of the items, the first of which has this position.
 abbrev pub item_lines : ℕ → List Item → List ℕ

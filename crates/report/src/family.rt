@@ -169,7 +169,8 @@ fn push_sized(text: &mut String, size: u64, label: &str) -> Result<(), AllocErro
 fn sign(later: bool, coef: &i64) -> &'static str
     ensures { (size : ℕ) (label : List ℕ)
         → result.now ++ sized_text size label
-        ≡ term_text later (record { negative = is_below_zero coef.now; size = size; label = label }) }
+        ≡ term_text later
+        (record { negative = is_below_zero coef.now; size = size; label = label }) }
 {
     match (later, *coef < 0) {
         (true, true) => " - ",

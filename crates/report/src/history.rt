@@ -55,7 +55,8 @@ fn push_tried(
 ) -> Result<(), AllocError>
     requires { IsKeptWhy why.now }
     ensures { OnOk result (string_bytes text.new ≡ string_bytes text.old
-        ++ (codes "tried " ++ (candidates_text prefix alignment ++ (codes " " ++ why_words why.now)))) }
+        ++ (codes "tried " ++ (candidates_text prefix alignment
+        ++ (codes " " ++ why_words why.now)))) }
 {
     push_candidates(text, "tried ", prefix, alignment)?;
     text.push_str(" ")?;

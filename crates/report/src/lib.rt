@@ -3,8 +3,8 @@
 //! `fault_text` tells why there is no answer (`specs/Faults.antt`), `verdict_text` what was found
 //! about two functions (`specs/Verdicts.antt`), and `history_text` how it was found
 //! (`specs/Histories.antt`). A family is told by its nodes and atoms (`specs/Families.antt`), a
-//! reason by a few words (`specs/Limits.antt`), samples by their causes (`specs/Samples.antt`), and a
-//! list of indexes by its runs (`specs/Indexes.antt`). `specs/Fits.antt` says which verdicts can be
+//! reason by a few words (`specs/Limits.antt`), samples by their causes (`specs/Samples.antt`), and
+//! a list of indexes by its runs (`specs/Indexes.antt`). `specs/Fits.antt` says which verdicts can be
 //! told of which functions: all that are justified. Every line ends with a newline.
 #![tactic(auto)]
 

@@ -43,7 +43,8 @@ fn push_place_limit(
 ) -> Result<(), AllocError>
     requires { limit ≢ PathLimit.Memory }
     ensures { OnOk result (string_bytes text.new ≡ string_bytes text.old
-        ++ (path_limit_word limit ++ (codes " " ++ (side_word side ++ (codes " " ++ place_text place))))) }
+        ++ (path_limit_word limit ++ (codes " " ++ (side_word side
+        ++ (codes " " ++ place_text place))))) }
 {
     text.push_str(path_limit_word(limit))?;
     text.push_str(" ")?;

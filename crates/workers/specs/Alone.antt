@@ -40,8 +40,8 @@ pub record IsTriedTo (subject : Comparison) (items : List Item) (number : ℕ) :
   pub unmined : (prefix alignment : ℕ) → number ≤ alignment → list_any (has_mined prefix alignment) items ≡ false
   pub untried : (prefix alignment : ℕ) → number ≤ alignment → list_any (has_tried prefix alignment) items ≡ false
 
--- A verdict is posted, the first that comes where the samples are taken in order, and then the alignments. All is worker
--- 0's.
+-- A verdict is posted, the first that comes where the samples are taken in order, and then the alignments. All is
+-- worker 0's.
 pub record HasFirstVerdict (subject : Comparison) (items : List Item) : Type 0 where
   pub legal : IsLegal subject items
   pub own : All (λ added. worker_of added ≡ 0) items

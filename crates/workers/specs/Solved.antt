@@ -29,7 +29,8 @@ worker_of (item.Posted worker verdict) = worker
 -- How many of the items the worker added.
 abbrev pub share_of : ℕ → List Item → ℕ
 share_of worker [] = 0
-share_of worker (added ∷ items) = if worker_of added == worker then suc (share_of worker items) else share_of worker items
+share_of worker (added ∷ items) =
+    if worker_of added == worker then suc (share_of worker items) else share_of worker items
 
 -- The same for each worker from the first one on, so many of them.
 abbrev pub shares_from : ℕ → ℕ → List Item → List ℕ

@@ -1,7 +1,7 @@
 //! One worker alone: the samples in order, then the alignments, each on all pairs.
 //!
-//! Every step is a call of the pool, which is refused for want of memory at most. What has been done
-//! so far is told by the history (`specs/Alone.antt`).
+//! Every step is a call of the pool, which is refused for want of memory at most. What has been
+//! done so far is told by the history (`specs/Alone.antt`).
 ghost use Rattle.std.specs.Prelude.{◌≡◌, ◌≢◌, ◌<◌, ℕ, List, suc, IfOk, IfErr, OnOk};
 ghost use Rattle.c_ast.specs.declared.trace.Pair.{Pair};
 ghost use Rattle.alignment.specs.Number.{IsAlignment};
@@ -244,7 +244,8 @@ fn find_over(
 
 /// A limit is why the alignment has no coupling; want of memory is none.
 fn limited(limit: ProductLimit) -> Result<Found, AllocError>
-    ensures { IfOk result (λ found. (found ≡ Refused (reason.Product limit)) × (limit ≢ product.Memory)) }
+    ensures { IfOk result (λ found.
+        (found ≡ Refused (reason.Product limit)) × (limit ≢ product.Memory)) }
 {
     match limit {
         ProductLimit::Memory => Err(AllocError),
@@ -274,8 +275,8 @@ fn find_under(
     }
 }
 
-/// What is found under the alignment, with these candidates; the limit of what all alignments share,
-/// where that has one.
+/// What is found under the alignment, with these candidates; the limit of what all alignments
+/// share, where that has one.
 fn find(
     alloc: Global,
     subject: &Subject,
@@ -476,9 +477,9 @@ fn conclude(alloc: Global, pool: Pool, subject: &Subject) -> Result<Solved, Allo
 }
 
 /// Compares the subject's functions. Worker 0 takes the samples in order and posts the first
-/// difference; else it tries the alignments in order, each on all pairs, and posts the first coupling;
-/// else nothing is decided, for the reasons that stand in the history. The one error is want of
-/// memory.
+/// difference; else it tries the alignments in order, each on all pairs, and posts the first
+/// coupling; else nothing is decided, for the reasons that stand in the history. The one error is
+/// want of memory.
 pub fn solve_alone(alloc: Global, subject: &Subject) -> Result<Solved, AllocError>
     ensures { IfOk result (IsSolvedAlone subject.now) }
 {
