@@ -39,6 +39,7 @@ fn values_text(alloc: Global, values: &[i128]) -> Result<String, AllocError>
     Ok(text)
 }
 
+/// The lines of a sample on which both functions return, and differently.
 pub(crate) fn different_text(
     alloc: Global,
     index: u32,
